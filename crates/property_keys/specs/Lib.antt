@@ -1,0 +1,10 @@
+pub mod Blanks
+pub mod Counts
+pub mod Decimals
+pub mod Keys
+pub mod Laws
+pub mod Numbers
+pub mod Symbols
+pub mod Texts
+pub mod Values
+pub mod Wholes

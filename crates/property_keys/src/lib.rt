@@ -1,0 +1,28 @@
+//! Values, property keys, texts, Symbols and the counter of steps, on which every other crate stands.
+#![tactic(auto)]
+
+mod blanks;
+mod decimals;
+mod faults;
+mod identifiers;
+mod indices;
+mod keys;
+pub mod laws;
+mod numbers;
+mod steps;
+mod symbols;
+mod texts;
+mod units;
+mod values;
+
+pub use faults::{KeyFault, NoMemory, NotWhole};
+pub use identifiers::{ObjectId, SymbolId, TextId};
+pub use keys::{Attributes, PropKey};
+pub use steps::{Counting, Ledger, Steps};
+pub use symbols::Symbols;
+pub use texts::Texts;
+pub use units::{MOST_UNITS, Units};
+pub use values::{Value, same_value};
+
+#[cfg(test)]
+mod tests;
