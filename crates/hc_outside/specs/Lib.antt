@@ -1,0 +1,9 @@
+pub mod Calls
+pub mod Causes
+pub mod Files
+pub mod Sinks
+pub mod States
+pub mod MemoryFiles
+pub mod MemorySink
+pub mod RealFiles
+pub mod StdSink
