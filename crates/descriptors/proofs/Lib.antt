@@ -1,0 +1,3 @@
+pub mod SameFields
+pub mod Standing
+pub mod Changes

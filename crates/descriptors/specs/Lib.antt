@@ -1,0 +1,4 @@
+pub mod Sameness
+pub mod Kinds
+pub mod Completion
+pub mod Validation
