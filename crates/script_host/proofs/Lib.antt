@@ -1,0 +1,9 @@
+pub mod FirstLines
+pub mod FirstObjects
+pub mod FirstRuns
+pub mod FirstScripts
+pub mod Lines
+pub mod Numbers
+pub mod Settled
+pub mod Spans
+pub mod Whole

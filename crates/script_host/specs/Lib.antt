@@ -1,0 +1,12 @@
+pub mod Answers
+pub mod FileBytes
+pub mod FirstForm
+pub mod FirstObject
+pub mod FirstOutput
+pub mod FirstRun
+pub mod Laws
+pub mod Leaves
+pub mod Reading
+pub mod Settling
+pub mod Spans
+pub mod Statuses

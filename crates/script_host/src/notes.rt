@@ -1,0 +1,65 @@
+ghost use Rattle.std.specs.Prelude.{◌≡◌, IfOk, OnOk, string_bytes};
+ghost use Rattle.property_keys.specs.Counts.{counted};
+ghost use Rattle.hc_outside.specs.Causes.{HasCause};
+ghost use Rattle.hc_outside.specs.Sinks.{Writes};
+ghost use Rattle.script_host.specs.Answers.{note_of, CannotRead};
+ghost use Rattle.script_host.specs.Leaves.{change, sink_view, TookFront, memory_note};
+ghost use Rattle.script_host.specs.Settling.{EndsNoted};
+
+use crate::Status;
+use hc_outside::{Fault, Sink, Text};
+use property_keys::NoMemory;
+use std::alloc::Global;
+use std::convert::AsStr;
+
+pub const USAGE: &[u8] = b"hcjs: usage: hcjs FILE\n";
+
+pub const REFUSED: &[u8] = b"hcjs: not of the first form\n";
+
+pub const CANNOT_WRITE: &[u8] = b"hcjs: cannot write\n";
+
+const OUT_OF_MEMORY: &[u8] = b"hcjs: out of memory\n";
+
+/// The note on a file that cannot be read.
+pub fn cannot_read(alloc: Global, name: &Text) -> Result<String, NoMemory>
+    ensures { IfOk result (λ note. string_bytes note ≡ note_of (CannotRead name.now)) }
+{
+    let name = name.as_str();
+    match format!(in alloc; "hcjs: cannot read {name}\n") {
+        Ok(note) => Ok(note),
+        Err(_) => Err(NoMemory),
+    }
+}
+
+/// Writes a note, and ends with this status where the error output takes it.
+pub fn ended<E: Sink>(err: &mut E, note: &[u8], wanted: Status) -> Status
+    ensures { EndsNoted (change (sink_view (E.held err.old) (E.writes err.old) (E.flushes err.old) (E.faults err.old))
+        (sink_view (E.held err.new) (E.writes err.new) (E.flushes err.new) (E.faults err.new))) note.now wanted result }
+{
+    match write_note(err, note) {
+        Ok(()) => wanted,
+        Err(Fault::Failed) => Status::WriteFault,
+        Err(Fault::NoMemory) => Status::NoMemory,
+    }
+}
+
+/// Ends for want of memory. Its note takes none.
+pub fn out_of_memory<E: Sink>(err: &mut E) -> Status
+    ensures status { result ≡ Status.NoMemory }
+    ensures note { TookFront (change (sink_view (E.held err.old) (E.writes err.old) (E.flushes err.old) (E.faults err.old))
+        (sink_view (E.held err.new) (E.writes err.new) (E.flushes err.new) (E.faults err.new))) memory_note }
+{
+    let _ = write_note(err, OUT_OF_MEMORY);
+    Status::NoMemory
+}
+
+// Writes a note by one `write`, and flushes it.
+fn write_note<E: Sink>(err: &mut E, note: &[u8]) -> Result<(), Fault>
+    ensures bytes { Writes (E.held err.old) (E.held err.new) result note.now }
+    ensures cause { HasCause (E.faults err.old) (E.faults err.new) result }
+    ensures writes { OnOk result (E.writes err.new ≡ counted (E.writes err.old)) }
+    ensures flushes { OnOk result (E.flushes err.new ≡ counted (E.flushes err.old)) }
+{
+    err.write(note)?;
+    err.flush()
+}
