@@ -1,0 +1,4 @@
+let o = {};
+o.a = 7;
+print(o.a);
+print(o.b);
