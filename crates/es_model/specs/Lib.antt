@@ -1,0 +1,8 @@
+pub mod Characters
+pub mod Forms
+pub mod Gaps
+pub mod Laws
+pub mod Places
+pub mod Reading
+pub mod Texts
+pub mod Tree

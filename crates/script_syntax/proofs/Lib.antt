@@ -1,0 +1,10 @@
+pub mod Bounds
+pub mod Cuts
+pub mod Digits
+pub mod Lines
+pub mod Parts
+pub mod Phases
+pub mod Separators
+pub mod Steps
+pub mod Tables
+pub mod Units

@@ -1,0 +1,58 @@
+ghost use Rattle.std.specs.Prelude.{◌≡◌, ◌<◌, List, length, slice_get, Some};
+ghost use Rattle.script_syntax.specs.Readings.{listed};
+
+use crate::positions::Position;
+use es_model::Token;
+use std::marker::Model;
+
+/// The tokens of a source in their order, and the place one past its last character. Only `tokens` makes them.
+#[derive(Drop)]
+pub struct Tokens {
+    all: Vec<Token>,
+    last_line: u32,
+    last_column: u32,
+}
+
+impl Model for Tokens {
+    ghost use Rattle.es_model.specs.Reading.{Reading};
+    ghost use Rattle.script_syntax.specs.Readings.{listed};
+
+    ghost Value = { Reading };
+
+    ghost view = { λ t. listed t.all.items t.last_line t.last_column };
+}
+
+impl Tokens {
+    pub(crate) fn ending_at(all: Vec<Token>, position: Position) -> Tokens
+        ensures { result ≡ listed all.items position.line position.column }
+    {
+        Tokens {
+            all,
+            last_line: position.line,
+            last_column: position.column,
+        }
+    }
+
+    /// How many tokens there are.
+    pub fn len(&self) -> usize
+        ensures { result ≡ length self.now.tokens }
+    {
+        self.all.len()
+    }
+
+    /// The token at a place below `len`.
+    pub fn at(&self, i: usize) -> &Token
+        requires { i < length self.now.tokens }
+        ensures { slice_get self.now.tokens i ≡ Some result.now }
+    {
+        &self.all[i]
+    }
+
+    /// The line and the column one past the last byte.
+    pub fn end(&self) -> (u32, u32)
+        ensures line { result.0 ≡ self.now.ending.line }
+        ensures column { result.1 ≡ self.now.ending.column }
+    {
+        (self.last_line, self.last_column)
+    }
+}
