@@ -1,2 +1,11 @@
+pub mod Composing
 pub mod Longest
 pub mod Phases
+pub mod Rests
+pub mod StageFacts
+pub mod Ranks
+pub mod Runs
+pub mod Carried
+pub mod Growing
+pub mod Turning
+pub mod Starting

@@ -1,0 +1,148 @@
+-- The laws over the start world, by computing each case.
+use Rattle.std.specs.Prelude.{◌≡◌, Some, refl, slice_get}
+use Rattle.es_model.specs.declared.kinds.ErrorKind.TheVariants as error
+use Rattle.es_model.specs.declared.intrinsics.Class.TheVariants as class
+use Rattle.es_model.specs.declared.intrinsics.Intrinsic.{Intrinsic}
+use Rattle.es_model.specs.declared.intrinsics.Intrinsic.TheVariants as intrinsic
+use Rattle.es_model.specs.declared.start_texts.StartText.{StartText}
+use Rattle.es_model.specs.declared.start_texts.StartText.TheVariants as text
+use Rattle.es_model.specs.declared.start_texts.WellKnown.TheVariants as symbol
+use Rattle.es_model.specs.World.{text_place}
+use Rattle.es_model.specs.StartObjects.{start_number}
+use Rattle.es_model.specs.StartTexts.{text_number, start_texts, units_of_start}
+use Rattle.es_model.specs.StartWorld.{start_lists, start_object}
+use Rattle.es_model.specs.StartLaws.{ObjectsAreInOrder, SymbolsAreInOrder, TextsDiffer, KeysDiffer, NamesAreThere}
+
+object-stands : (i : Intrinsic) → slice_get start_lists.objects (start_number i) ≡ Some (start_object i)
+object-stands intrinsic.Global = refl
+object-stands (intrinsic.Constructor class.Object) = refl
+object-stands (intrinsic.Prototype class.Object) = refl
+object-stands (intrinsic.Constructor class.Function) = refl
+object-stands (intrinsic.Prototype class.Function) = refl
+object-stands (intrinsic.Constructor class.Array) = refl
+object-stands (intrinsic.Prototype class.Array) = refl
+object-stands (intrinsic.Constructor class.String) = refl
+object-stands (intrinsic.Prototype class.String) = refl
+object-stands (intrinsic.Constructor class.Number) = refl
+object-stands (intrinsic.Prototype class.Number) = refl
+object-stands (intrinsic.Constructor class.Boolean) = refl
+object-stands (intrinsic.Prototype class.Boolean) = refl
+object-stands (intrinsic.Constructor class.Symbol) = refl
+object-stands (intrinsic.Prototype class.Symbol) = refl
+object-stands (intrinsic.Constructor (class.Error error.Error)) = refl
+object-stands (intrinsic.Prototype (class.Error error.Error)) = refl
+object-stands (intrinsic.Constructor (class.Error error.TypeError)) = refl
+object-stands (intrinsic.Prototype (class.Error error.TypeError)) = refl
+object-stands (intrinsic.Constructor (class.Error error.RangeError)) = refl
+object-stands (intrinsic.Prototype (class.Error error.RangeError)) = refl
+object-stands (intrinsic.Constructor (class.Error error.ReferenceError)) = refl
+object-stands (intrinsic.Prototype (class.Error error.ReferenceError)) = refl
+object-stands (intrinsic.Constructor (class.Error error.SyntaxError)) = refl
+object-stands (intrinsic.Prototype (class.Error error.SyntaxError)) = refl
+object-stands intrinsic.Proxy = refl
+object-stands intrinsic.ThrowTypeError = refl
+object-stands intrinsic.Reflect = refl
+
+pub objects-are-in-order : ObjectsAreInOrder
+objects-are-in-order = (object-stands, refl)
+
+pub symbols-are-in-order : SymbolsAreInOrder
+symbols-are-in-order symbol.HasInstance = refl
+symbols-are-in-order symbol.ToPrimitive = refl
+symbols-are-in-order symbol.ToStringTag = refl
+
+text-stands : (t : StartText) → slice_get start_texts (text_number t) ≡ Some (units_of_start t)
+text-stands text.Length = refl
+text-stands text.Name = refl
+text-stands text.Prototype = refl
+text-stands text.Constructor = refl
+text-stands text.Message = refl
+text-stands text.Empty = refl
+text-stands text.GlobalThis = refl
+text-stands text.Undefined = refl
+text-stands text.Proxy = refl
+text-stands text.Reflect = refl
+text-stands (text.Symbol symbol.HasInstance) = refl
+text-stands (text.Symbol symbol.ToPrimitive) = refl
+text-stands (text.Symbol symbol.ToStringTag) = refl
+text-stands (text.Description symbol.HasInstance) = refl
+text-stands (text.Description symbol.ToPrimitive) = refl
+text-stands (text.Description symbol.ToStringTag) = refl
+text-stands (text.Class class.Object) = refl
+text-stands (text.Class class.Function) = refl
+text-stands (text.Class class.Array) = refl
+text-stands (text.Class class.String) = refl
+text-stands (text.Class class.Number) = refl
+text-stands (text.Class class.Boolean) = refl
+text-stands (text.Class class.Symbol) = refl
+text-stands (text.Class (class.Error error.Error)) = refl
+text-stands (text.Class (class.Error error.TypeError)) = refl
+text-stands (text.Class (class.Error error.RangeError)) = refl
+text-stands (text.Class (class.Error error.ReferenceError)) = refl
+text-stands (text.Class (class.Error error.SyntaxError)) = refl
+
+text-found : (t : StartText) → text_place start_texts (units_of_start t) ≡ text_number t
+text-found text.Length = refl
+text-found text.Name = refl
+text-found text.Prototype = refl
+text-found text.Constructor = refl
+text-found text.Message = refl
+text-found text.Empty = refl
+text-found text.GlobalThis = refl
+text-found text.Undefined = refl
+text-found text.Proxy = refl
+text-found text.Reflect = refl
+text-found (text.Symbol symbol.HasInstance) = refl
+text-found (text.Symbol symbol.ToPrimitive) = refl
+text-found (text.Symbol symbol.ToStringTag) = refl
+text-found (text.Description symbol.HasInstance) = refl
+text-found (text.Description symbol.ToPrimitive) = refl
+text-found (text.Description symbol.ToStringTag) = refl
+text-found (text.Class class.Object) = refl
+text-found (text.Class class.Function) = refl
+text-found (text.Class class.Array) = refl
+text-found (text.Class class.String) = refl
+text-found (text.Class class.Number) = refl
+text-found (text.Class class.Boolean) = refl
+text-found (text.Class class.Symbol) = refl
+text-found (text.Class (class.Error error.Error)) = refl
+text-found (text.Class (class.Error error.TypeError)) = refl
+text-found (text.Class (class.Error error.RangeError)) = refl
+text-found (text.Class (class.Error error.ReferenceError)) = refl
+text-found (text.Class (class.Error error.SyntaxError)) = refl
+
+pub texts-differ : TextsDiffer
+texts-differ = (refl, text-stands, text-found)
+
+pub keys-differ : KeysDiffer
+keys-differ intrinsic.Global = refl
+keys-differ (intrinsic.Constructor class.Object) = refl
+keys-differ (intrinsic.Prototype class.Object) = refl
+keys-differ (intrinsic.Constructor class.Function) = refl
+keys-differ (intrinsic.Prototype class.Function) = refl
+keys-differ (intrinsic.Constructor class.Array) = refl
+keys-differ (intrinsic.Prototype class.Array) = refl
+keys-differ (intrinsic.Constructor class.String) = refl
+keys-differ (intrinsic.Prototype class.String) = refl
+keys-differ (intrinsic.Constructor class.Number) = refl
+keys-differ (intrinsic.Prototype class.Number) = refl
+keys-differ (intrinsic.Constructor class.Boolean) = refl
+keys-differ (intrinsic.Prototype class.Boolean) = refl
+keys-differ (intrinsic.Constructor class.Symbol) = refl
+keys-differ (intrinsic.Prototype class.Symbol) = refl
+keys-differ (intrinsic.Constructor (class.Error error.Error)) = refl
+keys-differ (intrinsic.Prototype (class.Error error.Error)) = refl
+keys-differ (intrinsic.Constructor (class.Error error.TypeError)) = refl
+keys-differ (intrinsic.Prototype (class.Error error.TypeError)) = refl
+keys-differ (intrinsic.Constructor (class.Error error.RangeError)) = refl
+keys-differ (intrinsic.Prototype (class.Error error.RangeError)) = refl
+keys-differ (intrinsic.Constructor (class.Error error.ReferenceError)) = refl
+keys-differ (intrinsic.Prototype (class.Error error.ReferenceError)) = refl
+keys-differ (intrinsic.Constructor (class.Error error.SyntaxError)) = refl
+keys-differ (intrinsic.Prototype (class.Error error.SyntaxError)) = refl
+keys-differ intrinsic.Proxy = refl
+keys-differ intrinsic.ThrowTypeError = refl
+keys-differ intrinsic.Reflect = refl
+
+pub names-are-there : NamesAreThere
+names-are-there = (refl, refl)

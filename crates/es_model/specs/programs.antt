@@ -1,0 +1,3 @@
+-- The algorithms, by the crate that has their frames.
+pub mod Errors
+pub mod Ordinary

@@ -1,0 +1,41 @@
+//! Laws over the model of a run. Each function here only names a law.
+
+ghost use Rattle.std.specs.Prelude.{◌≡◌, ℕ};
+ghost use Rattle.es_model.specs.declared.answers.Completion.{Completion};
+ghost use Rattle.es_model.specs.Composing.{ComposesAfter, EndsAfter};
+ghost use Rattle.es_model.specs.Depth.{IsDepthFree, IsServer, NeverRaises, model};
+ghost use Rattle.es_model.specs.Grows.{KeepsLists, KeepsPrinted, KeepsScript};
+ghost use Rattle.es_model.specs.Stages.{StagesLead};
+
+/// A task comes to the same at every depth that is enough for the turns that are left.
+pub fn depth_is_free()
+    ensures { IsDepthFree }
+{}
+
+/// The model does for each task what the task's program says, and answers its questions itself.
+pub fn model_serves()
+    ensures { IsServer model }
+{}
+
+/// No outcome has more turns left than its world had.
+pub fn turns_never_rise()
+    ensures { NeverRaises model }
+{}
+
+/// No task takes away an object, a text, a Symbol, a cell or a printed byte, gives an object another kind, or changes the script.
+pub fn nothing_is_taken_away()
+    ensures lists { KeepsLists model }
+    ensures script { KeepsScript model }
+    ensures printed { KeepsPrinted model }
+{}
+
+/// What a program comes to is what the stage comes to at which it stops by itself.
+pub fn stages_lead_on()
+    ensures { StagesLead }
+{}
+
+/// What comes after what comes after an outcome: the order of composing is free, and an end changes nothing.
+pub fn outcomes_compose()
+    ensures after { ComposesAfter }
+    ensures end { EndsAfter }
+{}
