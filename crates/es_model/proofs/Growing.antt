@@ -48,7 +48,7 @@ kinds-set (y ∷ os) zero (suc j) x e = refl
 kinds-set (y ∷ os) (suc i) zero x e = refl
 kinds-set (y ∷ os) (suc i) (suc j) x e = kinds-set os i j x e
 
-grows-put : (w : World) (o : ObjectId) (x : Object) → fixed_kind x.kind ≡ fixed_kind (object_at w.lists.objects o).kind → Grows w.lists (with_object w o x).lists
+pub grows-put : (w : World) (o : ObjectId) (x : Object) → fixed_kind x.kind ≡ fixed_kind (object_at w.lists.objects o).kind → Grows w.lists (with_object w o x).lists
 grows-put w o x e = record {
   objects = let k = length-set w.lists.objects o.0 x in omega arith;
   kinds = λ q b. kinds-set w.lists.objects o.0 q.0 x e;
@@ -91,7 +91,7 @@ grows-kind : (w : World) (o : ObjectId) (k : ObjectKind) → fixed_kind k ≡ fi
 unfolding with_kind
 grows-kind w o k e = grows-put w o _ e
 
-fixed-revoked : (k : ObjectKind) → fixed_kind (revoked_kind k) ≡ fixed_kind k
+pub fixed-revoked : (k : ObjectKind) → fixed_kind (revoked_kind k) ≡ fixed_kind k
 fixed-revoked kind_of.Ordinary = refl
 fixed-revoked (kind_of.Function function constructor strict) = refl
 fixed-revoked (kind_of.Builtin row constructor proxy) = refl
@@ -102,7 +102,7 @@ fixed-revoked (kind_of.Arguments cells) = refl
 fixed-revoked kind_of.Error = refl
 fixed-revoked (kind_of.Proxy target handler callable constructor) = refl
 
-fixed-unmapped : (k : ObjectKind) (i : ℕ) → fixed_kind (unmapped_kind k i) ≡ fixed_kind k
+pub fixed-unmapped : (k : ObjectKind) (i : ℕ) → fixed_kind (unmapped_kind k i) ≡ fixed_kind k
 fixed-unmapped kind_of.Ordinary i = refl
 fixed-unmapped (kind_of.Function function constructor strict) i = refl
 fixed-unmapped (kind_of.Builtin row constructor proxy) i = refl
@@ -133,7 +133,7 @@ grows-prototype : (w v : World) (p : Option ObjectId) → Grows w.lists v.lists 
 grows-prototype w v None h = h
 grows-prototype w v (Some p) h = grows-cond w v (noted v (MadePrototype p)) (is_proxy (kind v.lists p)) h h
 
-grows-last : (w : World) (x : Object) → Grows w.lists (with_objects w (w.lists.objects ++ x ∷ [])).lists
+pub grows-last : (w : World) (x : Object) → Grows w.lists (with_objects w (w.lists.objects ++ x ∷ [])).lists
 grows-last w x = record {
   objects = let n = length-append w.lists.objects (x ∷ []) in omega arith;
   kinds = λ o b. ap (λ (y : Object). fixed_kind y.kind) (get_or-append w.lists.objects (x ∷ []) no_object o.0 b);

@@ -9,3 +9,17 @@ pub mod Carried
 pub mod Growing
 pub mod Turning
 pub mod Starting
+pub mod Keeping
+pub mod KeptReads
+pub mod TextPlaces
+pub mod KnownLater
+pub mod SoundPut
+pub mod SoundProperties
+pub mod SoundNew
+pub mod SoundChanges
+pub mod KeptWrites
+pub mod KeptAll
+pub mod KeptKeys
+pub mod Cycles
+pub mod ChainsEnd
+pub mod SoundCycles

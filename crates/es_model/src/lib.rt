@@ -44,8 +44,8 @@ pub use kinds::{CellNo, ErrorKind, ObjectKind};
 pub use laws::{gaps_are_longest, phases_are_in_order, punctuators_are_longest};
 pub use lists::{ArgumentCells, KeyList, Values};
 pub use model_laws::{
-    depth_is_free, model_serves, nothing_is_taken_away, outcomes_compose, stages_lead_on,
-    turns_never_rise,
+    depth_is_free, model_serves, nothing_is_taken_away, outcomes_compose, rounds_suffice,
+    sound_worlds_are_kept, stages_lead_on, turns_never_rise,
 };
 pub use names::{Binding, Named, Target};
 pub use node::Node;

@@ -5,6 +5,8 @@ ghost use Rattle.es_model.specs.declared.answers.Completion.{Completion};
 ghost use Rattle.es_model.specs.Composing.{ComposesAfter, EndsAfter};
 ghost use Rattle.es_model.specs.Depth.{IsDepthFree, IsServer, NeverRaises, model};
 ghost use Rattle.es_model.specs.Grows.{KeepsLists, KeepsPrinted, KeepsScript};
+ghost use Rattle.es_model.specs.Kept.{KeepsEach, KeepsSound};
+ghost use Rattle.es_model.specs.Rounds.{RoundsSuffice};
 ghost use Rattle.es_model.specs.Stages.{StagesLead};
 
 /// A task comes to the same at every depth that is enough for the turns that are left.
@@ -27,6 +29,18 @@ pub fn nothing_is_taken_away()
     ensures lists { KeepsLists model }
     ensures script { KeepsScript model }
     ensures printed { KeepsPrinted model }
+{}
+
+/// In a sound world a task whose names are all there keeps worlds sound: the world is sound at each request that it makes, with all that the request names there,
+/// and at its end, with an answer of the request's kind whose names are there.
+pub fn sound_worlds_are_kept()
+    ensures each { KeepsEach }
+    ensures ends { KeepsSound model }
+{}
+
+/// In a sound world `[[SetPrototypeOf]]` has rounds enough for every chain of prototypes.
+pub fn rounds_suffice()
+    ensures { RoundsSuffice }
 {}
 
 /// What a program comes to is what the stage comes to at which it stops by itself.
