@@ -94,7 +94,7 @@ error-kept q w k text s short =
     let e : ObjectId = new_object b.lists in
     let sa : IsSound a = sound-interning w text s short in
     let sb : IsSound b = sound-interning a (codes "message") sa (omega arith) in
-    let sc : IsSound c = sound-making b kind_of.Error OfError (error_proto k) sb tt (sb.start (intrinsic.Prototype (class.Error k))).0 in
+    let sc : IsSound c = sound-making b kind_of.Error OfError (error_proto k) sb tt tt (sb.intact.start (intrinsic.Prototype (class.Error k))).0 in
     let bc = grows-changed (Making kind_of.Error OfError (error_proto k)) b in
     let t-known : IsText c.lists t = text-later b.lists c.lists bc t (text-later a.lists b.lists (grows-changed (Interning (codes "message")) a) t (interned-known w text)) in
     let key : IsKnownKey b.lists (Name name) = ((interned-known a (codes "message"), ap array_index_of (interned-names a (codes "message")) ∙ message-is_no_index), tt) in
@@ -162,7 +162,7 @@ set_called-kept o k x r site w (Normal y) s fit = (s, (tt, tt))
 set_found-kept : (o : ObjectId) (x r : Value) (site : Option SiteId) (w : World) (found : Option Complete) (up : Option ObjectId) (k : PropKey) (v receiver : Value) → IsSound w → IfThere (IsKnownComplete w.lists) found → IfThere (IsObject w.lists) up → IsKnownKey w.lists k → IsKnown w.lists v → IsKnown w.lists receiver →
     IsKept (FitsTask (Of (Write o k x r site))) (set_found found up k v receiver) w
 unfolding charged
-set_found-kept o x r site w None (Some parent) k v receiver s h up key known there = (sound-charged w 1 s, (up, key, known, there), λ c u later-sound later fit. (later-sound, fit))
+set_found-kept o x r site w None (Some parent) k v receiver s h up key known there = (s.intact, (sound-charged w 1 s, (up, key, known, there), λ c u later-sound later fit. (later-sound, fit)))
 set_found-kept o x r site w None None k v receiver s h up key known there = set_receiver-kept o x r site w k v receiver s key known there
 set_found-kept o x r site w (Some (Stored y flags)) up k v receiver s h u key known there =
     kept-if (FitsTask (Of (Write o k x r site))) w flags.writable _ _ (set_receiver-kept o x r site w k v receiver s key known there) (s, (tt, tt))

@@ -32,7 +32,8 @@ pub fn nothing_is_taken_away()
 {}
 
 /// In a sound world a task whose names are all there keeps worlds sound: the world is sound at each request that it makes, with all that the request names there,
-/// and at its end, with an answer of the request's kind whose names are there.
+/// and at its end, with an answer of the request's kind whose names are there. At each charge and at a halt all that the world names is there, and no chain of
+/// prototypes comes back to an object without passing a Proxy.
 pub fn sound_worlds_are_kept()
     ensures each { KeepsEach }
     ensures ends { KeepsSound model }
