@@ -1,5 +1,5 @@
 -- What is known stays known while lists grow.
-use Rattle.std.proofs.Common.{◌≡◌, ◌<◌, ℕ, Option, Some, None, List, [], ◌∷◌, length, get_or, slice_get, ap, ◌∙◌, arith}
+use Rattle.std.proofs.Common.{◌≡◌, ◌<◌, ℕ, Bool, true, false, refl, sym, Option, Some, None, List, [], ◌∷◌, length, get_or, slice_get, ap, ◌∙◌, arith}
 use Rattle.std.specs.List.{AllByRecursion}
 use Rattle.std.proofs.lemmas.Option.{slice_get_within, slice_get-get_or, get_or_from_slice_get}
 use Rattle.property_keys.specs.declared.identifiers.ObjectId.{ObjectId}
@@ -21,11 +21,12 @@ use Rattle.es_model.specs.declared.intrinsics.Intrinsic.{Intrinsic}
 use Rattle.es_model.specs.StartObjects.{object_of}
 use Rattle.es_model.specs.StartTable.{start_kind}
 use Rattle.es_model.specs.Tree.{Tree}
-use Rattle.es_model.specs.Objects.{Object}
+use Rattle.es_model.specs.Builtins.{BuiltinFacts, builtin_facts}
+use Rattle.es_model.specs.Objects.{Object, is_proxy}
 use Rattle.es_model.specs.World.{Lists, kind}
 use Rattle.es_model.specs.Grows.{Grows, fixed_kind}
 use Rattle.es_model.specs.Known.{IsObject, IsText, IsCell, IfThere, IsKnown, IsKnownKey, IsKnownComplete, IsKnownProperty, IsKnownDescriptor}
-use Rattle.es_model.specs.Sound.{IsKnownKind, IsIntactObject, IsRightKind}
+use Rattle.es_model.specs.Sound.{IsKnownKind, IsIntactObject, HasItsProxy, HasRow, IsRightKind}
 
 pub all-map : {X : Type 0} (P Q : X → Type 0) → ((x : X) → P x → Q x) → (xs : List X) → AllByRecursion P xs → AllByRecursion Q xs
 all-map P Q f [] h = tt
@@ -101,10 +102,32 @@ intact_object-later l l' g x h = record {
   distinct = h.distinct;
 }
 
+proxy-fixed : (k : ObjectKind) → is_proxy (fixed_kind k) ≡ is_proxy k
+proxy-fixed kind_of.Ordinary = refl
+proxy-fixed (kind_of.Function function constructor strict) = refl
+proxy-fixed (kind_of.Builtin row constructor proxy) = refl
+proxy-fixed kind_of.Array = refl
+proxy-fixed (kind_of.Text t) = refl
+proxy-fixed (kind_of.Wrapper v) = refl
+proxy-fixed (kind_of.Arguments cells) = refl
+proxy-fixed kind_of.Error = refl
+proxy-fixed (kind_of.Proxy target handler callable constructor) = refl
+
+its_proxy-later : (l l' : Lists) → Grows l l' → (revokes : Bool) (proxy : Option ObjectId) → HasItsProxy l revokes proxy → HasItsProxy l' revokes proxy
+its_proxy-later l l' g true None h = h
+its_proxy-later l l' g true (Some p) h =
+    (object-later l l' g p h.0, sym (proxy-fixed (kind l' p)) ∙ ap is_proxy (g.kinds p h.0) ∙ proxy-fixed (kind l p) ∙ h.1)
+its_proxy-later l l' g false None h = h
+its_proxy-later l l' g false (Some p) h = h
+
+row-later : (l l' : Lists) → Grows l l' → (facts : Option BuiltinFacts) (constructor : Bool) (proxy : Option ObjectId) → HasRow l facts constructor proxy → HasRow l' facts constructor proxy
+row-later l l' g None constructor proxy h = h
+row-later l l' g (Some facts) constructor proxy h = (h.0, its_proxy-later l l' g facts.revokes proxy h.1)
+
 pub right-later : (script : Tree) (l l' : Lists) → Grows l l' → (o : ObjectId) (k : ObjectKind) → IsRightKind script l o k → IsRightKind script l' o k
 right-later script l l' g o kind_of.Ordinary h = tt
-right-later script l l' g o (kind_of.Function function constructor strict) h = h
-right-later script l l' g o (kind_of.Builtin row constructor proxy) h = tt
+right-later script l l' g o (kind_of.Function function constructor strict) h = (h.0, (let x = g.cells in let y = h.1 in omega arith))
+right-later script l l' g o (kind_of.Builtin row constructor proxy) h = row-later l l' g (builtin_facts row) constructor proxy h
 right-later script l l' g o kind_of.Array h = tt
 right-later script l l' g o (kind_of.Text t) h = tt
 right-later script l l' g o (kind_of.Wrapper v) h = tt

@@ -85,7 +85,7 @@ an_error up said name = record {
 -- an empty script, these objects and texts, so many turns and this trace
 abbrev pub world : List Object → List (List ℕ) → ℕ → List Event → World
 world objects texts turns trace = record {
-  script = record { nodes = []; functions = []; literals = []; sites = [] };
+  script = record { nodes = []; functions = []; literals = []; sites = []; top_names = 0 };
   lists = record { objects = objects; texts = texts; symbols = []; cells = [] };
   turns = turns;
   trace = trace;

@@ -1,5 +1,5 @@
--- Sound worlds. The points on array objects, on the cells of the script's top scope and on the rows of built-ins come with what they speak of.
-use Rattle.std.specs.Prelude.{◌^◌, ◌≡◌, ◌≢◌, ◌<◌, ◌≤◌, ⊤, ℕ, zero, suc, Bool, false, if◌then◌else◌, Option, Some, None, List, [], ◌∷◌, length, slice_get, option_and_then}
+-- Sound worlds. The point on Array objects, that each has its own `length`, comes with them.
+use Rattle.std.specs.Prelude.{◌^◌, ◌≡◌, ◌≢◌, ◌<◌, ◌≤◌, ⊤, IsTrue, ℕ, zero, suc, Bool, true, false, if◌then◌else◌, Option, Some, None, List, [], ◌∷◌, length, slice_get, option_and_then}
 use Rattle.std.specs.List.{AllByRecursion}
 use Rattle.property_keys.specs.declared.identifiers.ObjectId.{ObjectId}
 use Rattle.property_keys.specs.Texts.{HasOneEach}
@@ -10,6 +10,7 @@ use Rattle.es_model.specs.declared.owned.OwnProperty.{OwnProperty}
 use Rattle.es_model.specs.declared.intrinsics.Intrinsic.{Intrinsic}
 use Rattle.es_model.specs.StartObjects.{object_of}
 use Rattle.es_model.specs.StartTable.{start_kind}
+use Rattle.es_model.specs.Builtins.{BuiltinFacts, builtin_facts}
 use Rattle.es_model.specs.Tree.{Tree}
 use Rattle.es_model.specs.Objects.{Object, object_at, is_proxy, same_key}
 use Rattle.es_model.specs.World.{Lists, World, proto, kind}
@@ -85,9 +86,24 @@ HasFlags (Some facts) constructor strict = (facts.constructor ≡ constructor) �
 abbrev pub IsOlder : ObjectId → ObjectId → Type 0
 IsOlder o p = p.0 < o.0
 
+-- a revoke function names its Proxy, and no other function names one
+abbrev pub HasItsProxy : Lists → Bool → Option ObjectId → Type 0
+HasItsProxy l true None = ⊥
+HasItsProxy l true (Some p) = IsObject l p × IsTrue (is_proxy (kind l p))
+HasItsProxy l false None = ⊤
+HasItsProxy l false (Some p) = ⊥
+
+-- a built-in function has a row, and the constructor flag of that row
+abbrev pub HasRow : Lists → Option BuiltinFacts → Bool → Option ObjectId → Type 0
+HasRow l None constructor proxy = ⊥
+HasRow l (Some facts) constructor proxy = (facts.constructs ≡ constructor) × HasItsProxy l facts.revokes proxy
+
 -- the inner slots of object o say what is so
 abbrev pub IsRightKind : Tree → Lists → ObjectId → ObjectKind → Type 0
-IsRightKind script l o (kind_of.Function function constructor strict) = HasFlags (slice_get script.functions function.0) constructor strict
+-- where a function of the script is there, so are the cells of the script's top scope
+IsRightKind script l o (kind_of.Function function constructor strict) =
+    HasFlags (slice_get script.functions function.0) constructor strict × (script.top_names ≤ length l.cells)
+IsRightKind script l o (kind_of.Builtin row constructor proxy) = HasRow l (builtin_facts row) constructor proxy
 -- the target of a Proxy is older than the Proxy
 IsRightKind script l o (kind_of.Proxy target handler callable constructor) = IfThere (IsOlder o) target
 IsRightKind script l o other = ⊤
