@@ -9,6 +9,7 @@ pub mod Carried
 pub mod Growing
 pub mod Turning
 pub mod Starting
+pub mod StartSound
 pub mod Keeping
 pub mod KeptReads
 pub mod TextPlaces

@@ -59,8 +59,8 @@ pub use small_worlds::{
     prototypes_are_set, receivers_are_handed_on, set_puts, set_refuses,
 };
 pub use start_laws::{
-    start_keys_differ, start_names_are_there, start_objects_are_in_order,
-    start_symbols_are_in_order, start_texts_differ,
+    start_objects_are_in_order, start_symbols_are_in_order, start_texts_are_in_order,
+    start_world_is_sound,
 };
 pub use start_objects::start_intrinsic;
 pub use start_texts::{StartText, WellKnown, start_text};
