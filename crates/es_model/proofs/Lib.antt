@@ -14,6 +14,7 @@ pub mod Keeping
 pub mod KeptReads
 pub mod TextPlaces
 pub mod KnownLater
+pub mod Belonging
 pub mod SoundPut
 pub mod SoundProperties
 pub mod SoundNew

@@ -1,3 +1,4 @@
+pub mod Belongs
 pub mod Builtins
 pub mod Changes
 pub mod Characters

@@ -2,6 +2,7 @@
 
 ghost use Rattle.std.specs.Prelude.{◌≡◌, ℕ};
 ghost use Rattle.es_model.specs.declared.answers.Completion.{Completion};
+ghost use Rattle.es_model.specs.Belongs.{ChangesKeepNames, KeepsNames, NamesStay};
 ghost use Rattle.es_model.specs.Composing.{ComposesAfter, EndsAfter};
 ghost use Rattle.es_model.specs.Depth.{IsDepthFree, IsServer, NeverRaises, model};
 ghost use Rattle.es_model.specs.Grows.{KeepsLists, KeepsPrinted, KeepsScript};
@@ -37,6 +38,14 @@ pub fn nothing_is_taken_away()
 pub fn sound_worlds_are_kept()
     ensures each { KeepsEach }
     ensures ends { KeepsSound model }
+{}
+
+/// All that a frame keeps goes on being there, each object with its kind: in every later world, after each change, and after each task. So a frame that belongs to
+/// a world belongs to every later one.
+pub fn frames_go_on_belonging()
+    ensures later { NamesStay }
+    ensures change { ChangesKeepNames }
+    ensures task { KeepsNames model }
 {}
 
 /// In a sound world `[[SetPrototypeOf]]` has rounds enough for every chain of prototypes.
