@@ -20,7 +20,8 @@ use Rattle.es_model.proofs.Growing.{grows-last}
 use Rattle.es_model.proofs.KnownLater.{all-map, there-map, known-later, text-later, intact_object-later, right-later, start-later}
 use Rattle.es_model.proofs.SoundPut.{link_of}
 
-split : (R : Type 0) (i n : ℕ) → i < suc n → (i < n → R) → (i ≡ n → R) → R
+-- a number below the next one is below this one, or this one
+pub split : (R : Type 0) (i n : ℕ) → i < suc n → (i < n → R) → (i ≡ n → R) → R
 split R zero zero b f g = g refl
 split R zero (suc n) b f g = f (omega arith)
 split R (suc i) zero b f g = absurd (omega arith)

@@ -37,6 +37,7 @@ use Rattle.es_model.specs.Grows.{fixed_kind}
 use Rattle.es_model.specs.Known.{IsObject, IsText, IfThere, IsKnown, IsKnownKey, IsKnownComplete, IsKnownProperty}
 use Rattle.es_model.specs.Sound.{IsKnownKind, AreDistinct, IsIntactObject, link, up, NeverReturns, IsShort, most_units, IsIntact, HasItsProxy, HasRow, IsRightKind}
 use Rattle.es_model.specs.StartLaws.{StartIsSound}
+use Rattle.es_model.proofs.SoundNew.{split}
 use Rattle.es_model.proofs.Starting.{objects-are-in-order}
 
 -- ---- tests that compute
@@ -48,12 +49,6 @@ both false b e = absurd (true≢false (sym e))
 abbrev all_below : (ℕ → Bool) → ℕ → Bool
 all_below test zero = true
 all_below test (suc n) = test n && all_below test n
-
-split : (R : Type 0) (i n : ℕ) → i < suc n → (i < n → R) → (i ≡ n → R) → R
-split R zero zero b f g = g refl
-split R zero (suc n) b f g = f (omega arith)
-split R (suc i) zero b f g = absurd (omega arith)
-split R (suc i) (suc n) b f g = split R i n (omega arith) (λ c. f (omega arith)) (λ e. g (ap suc e))
 
 below-at : (test : ℕ → Bool) (n : ℕ) → all_below test n ≡ true → (i : ℕ) → i < n → test i ≡ true
 below-at test zero e i b = absurd (omega arith)

@@ -33,6 +33,7 @@ abbrev pub AreDistinct : List OwnProperty → Type 0
 AreDistinct [] = ⊤
 AreDistinct (p ∷ ps) = AllByRecursion (λ (q : OwnProperty). same_key p.key q.key ≡ false) ps × AreDistinct ps
 
+-- all that an object names is there, and its keys differ
 pub record IsIntactObject (l : Lists) (x : Object) : Type 0 where
   pub slots : IsKnownKind l x.kind
   pub proto : IfThere (IsObject l) x.proto
