@@ -1,0 +1,5 @@
+pub mod Sound
+pub mod Endings
+pub mod Complete
+pub mod Reached
+pub mod Answer
