@@ -3,3 +3,6 @@ pub mod Endings
 pub mod Complete
 pub mod Reached
 pub mod Answer
+pub mod Firsts
+pub mod Shorter
+pub mod Total

@@ -2,6 +2,7 @@ pub mod Tree
 pub mod Scripts
 pub mod Kinds
 pub mod Grammar
+pub mod Firsts
 pub mod Completed
 pub mod Machine
 pub mod Trees

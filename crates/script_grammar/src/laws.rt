@@ -1,11 +1,12 @@
 //! Laws of the grammar. Each function here only names a law.
 
-ghost use Rattle.std.specs.Prelude.{◌≡◌, ℕ, List, [], ◌∷◌, ◌++◌};
+ghost use Rattle.std.specs.Prelude.{◌≡◌, ℕ, true, List, [], ◌∷◌, ◌++◌, Some};
 ghost use Rattle.es_model.specs.declared.token.Token.{Token};
 ghost use Rattle.script_grammar.specs.declared.sign.Sign.{Sign};
-ghost use Rattle.script_grammar.specs.Tree.{Tree};
-ghost use Rattle.script_grammar.specs.Grammar.{Read, read, Plain, Viable};
-ghost use Rattle.script_grammar.specs.Completed.{Answer, Reads};
+ghost use Rattle.script_grammar.specs.Tree.{Tree, first_token};
+ghost use Rattle.script_grammar.specs.Grammar.{Part, Read, read, Plain, Spells, Viable};
+ghost use Rattle.script_grammar.specs.Firsts.{has_first, first_number};
+ghost use Rattle.script_grammar.specs.Completed.{Answer, Completes, Reads};
 
 /// One list of tokens has at most one script.
 pub fn at_most_one_script()
@@ -20,4 +21,20 @@ pub fn one_nesting_each()
 /// Tokens have at most one answer.
 pub fn one_answer_each()
     ensures { (ts : List Token) (a b : Answer) → Reads [] 0 ts a → Reads [] 0 ts b → a ≡ b }
+{}
+
+/// A node begins with a token of the file, and its tree names that token.
+pub fn first_token_of_each()
+    ensures { (q : Part) (d : ℕ) (e : Tree) (ts rs : List Read) → Spells q d e ts rs → has_first q ≡ true
+        → (i : ℕ) × (first_number ts ≡ Some i) × (first_token e ≡ Some i) }
+{}
+
+/// Tokens have an answer. So the grammar has one first fault or one script for each list of tokens.
+pub fn some_answer_each()
+    ensures { (ts : List Token) → (a : Answer) × Reads [] 0 ts a }
+{}
+
+/// The list with all semicolons put in has the script.
+pub fn completed_list_has_script()
+    ensures { (ts : List Token) (full : List Read) (x : Tree) → Completes ts full x → Plain full x }
 {}
