@@ -6,3 +6,4 @@ pub mod Answer
 pub mod Firsts
 pub mod Shorter
 pub mod Total
+pub mod Decide

@@ -4,6 +4,7 @@ pub mod Kinds
 pub mod Grammar
 pub mod Firsts
 pub mod Completed
+pub mod Samples
 pub mod Machine
 pub mod Trees
 pub mod Progress

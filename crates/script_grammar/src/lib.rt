@@ -2,6 +2,7 @@
 #![tactic(auto)]
 
 mod act;
+pub mod examples;
 mod kinds;
 mod labels;
 pub mod laws;
