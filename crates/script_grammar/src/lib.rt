@@ -11,6 +11,8 @@ mod node;
 mod script;
 mod sign;
 mod symbol;
+#[cfg(test)]
+mod tests;
 
 pub use act::Act;
 pub use kinds::{Bracket, Kind, Level, Mark, NameRole, Word};
