@@ -7,3 +7,4 @@ pub mod Firsts
 pub mod Shorter
 pub mod Total
 pub mod Decide
+pub mod Faults

@@ -1,12 +1,14 @@
 //! Laws of the grammar. Each function here only names a law.
 
-ghost use Rattle.std.specs.Prelude.{◌≡◌, ℕ, true, List, [], ◌∷◌, ◌++◌, Some};
+ghost use Rattle.std.specs.Prelude.{◌≡◌, ℕ, true, List, [], ◌∷◌, ◌++◌, Option, Some, None};
+ghost use Rattle.es_model.specs.Reading.{Reading};
+ghost use Rattle.es_model.specs.declared.faults.SourceFault.{SourceFault};
 ghost use Rattle.es_model.specs.declared.token.Token.{Token};
 ghost use Rattle.script_grammar.specs.declared.sign.Sign.{Sign};
 ghost use Rattle.script_grammar.specs.Tree.{Tree, first_token};
 ghost use Rattle.script_grammar.specs.Grammar.{Part, Read, read, Plain, Spells, Viable};
 ghost use Rattle.script_grammar.specs.Firsts.{has_first, first_number};
-ghost use Rattle.script_grammar.specs.Completed.{Answer, Completes, Reads};
+ghost use Rattle.script_grammar.specs.Completed.{Answer, Completes, Derives, HasGrammarFault, Reads};
 
 /// One list of tokens has at most one script.
 pub fn at_most_one_script()
@@ -29,7 +31,7 @@ pub fn first_token_of_each()
         → (i : ℕ) × (first_number ts ≡ Some i) × (first_token e ≡ Some i) }
 {}
 
-/// Tokens have an answer. So the grammar has one first fault or one script for each list of tokens.
+/// Tokens have an answer.
 pub fn some_answer_each()
     ensures { (ts : List Token) → (a : Answer) × Reads [] 0 ts a }
 {}
@@ -37,4 +39,16 @@ pub fn some_answer_each()
 /// The list with all semicolons put in has the script.
 pub fn completed_list_has_script()
     ensures { (ts : List Token) (full : List Read) (x : Tree) → Completes ts full x → Plain full x }
+{}
+
+/// A reading has one first fault of the grammar, or none.
+pub fn one_first_fault_each()
+    ensures { (all : Reading) → (f : Option SourceFault) × HasGrammarFault all f × ((g : Option SourceFault) → HasGrammarFault all g → g ≡ f) }
+{}
+
+/// It has none exactly where its tokens derive a tree.
+pub fn faultless_where_derived()
+    ensures { (all : Reading)
+        → (HasGrammarFault all None → (x : Tree) × Derives all.tokens x)
+        × ((x : Tree) → Derives all.tokens x → HasGrammarFault all None) }
 {}
