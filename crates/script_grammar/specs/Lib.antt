@@ -1,0 +1,10 @@
+pub mod Tree
+pub mod Scripts
+pub mod Kinds
+pub mod Grammar
+pub mod Firsts
+pub mod Completed
+pub mod Samples
+pub mod Machine
+pub mod Trees
+pub mod Progress

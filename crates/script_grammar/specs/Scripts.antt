@@ -1,0 +1,40 @@
+-- The script that the code has, and the tree that it stands for.
+use Rattle.std.specs.Prelude.{◌≡◌, ◌<◌, ℕ, List, Some, slice_get}
+use Rattle.es_model.specs.declared.token.Token.{Token}
+use Rattle.es_model.specs.declared.token.TokenKind.{TokenKind}
+use Rattle.es_model.specs.declared.token.TokenKind.TheVariants as token
+use Rattle.script_grammar.specs.declared.node.Node.{Node}
+use Rattle.script_grammar.specs.declared.node.Node.TheVariants as node
+use Rattle.script_grammar.specs.declared.leaf.Leaf.{Leaf}
+use Rattle.script_grammar.specs.declared.leaf.LeafKind.{LeafKind}
+use Rattle.script_grammar.specs.declared.leaf.LeafKind.TheVariants as leaf
+use Rattle.script_grammar.specs.Tree.{Tree}
+use Rattle.script_grammar.specs.Tree.{Tree as t}
+
+pub record Parts : Type 0 where
+  pub nodes : List Node
+  pub leaves : List Leaf
+  pub root : ℕ
+
+abbrev pub parts_of : List Node → List Leaf → ℕ → Parts
+parts_of all_nodes all_leaves the_root = record { nodes = all_nodes; leaves = all_leaves; root = the_root }
+
+abbrev pub leaf_kind : TokenKind → LeafKind
+leaf_kind (token.Name units) = leaf.Name units
+leaf_kind (token.Number value) = leaf.Number value
+leaf_kind (token.Text units strict) = leaf.Text units strict
+leaf_kind (token.Punctuator units) = leaf.Punctuator
+
+abbrev pub leaf_of : Token → Leaf
+leaf_of t = record { kind = leaf_kind t.kind; line = t.line; column = t.column }
+
+-- The node with that number stands for the tree: it has the tree's label, and its parts, whose numbers are below its own, stand for the tree's.
+abbrev pub Stands : List Node → ℕ → Tree → Type 0
+Stands ns n (t.Atom f) = slice_get ns n ≡ Some (node.Atom f)
+Stands ns n (t.Wrap f x) = (i : ℕ) × (slice_get ns n ≡ Some (node.Wrap f i)) × (i < n) × Stands ns i x
+Stands ns n (t.Pair f x y) = (i j : ℕ) × (slice_get ns n ≡ Some (node.Pair f i j)) × (i < n) × (j < n) × Stands ns i x × Stands ns j y
+Stands ns n (t.Triple f x y z) =
+    (i j k : ℕ) × (slice_get ns n ≡ Some (node.Triple f i j k)) × (i < n) × (j < n) × (k < n) × Stands ns i x × Stands ns j y × Stands ns k z
+Stands ns n (t.Quad f x y z w) =
+    (i j k l : ℕ) × (slice_get ns n ≡ Some (node.Quad f i j k l))
+    × (i < n) × (j < n) × (k < n) × (l < n) × Stands ns i x × Stands ns j y × Stands ns k z × Stands ns l w

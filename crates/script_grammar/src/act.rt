@@ -1,0 +1,11 @@
+use crate::{Atom, Pair, Quad, Triple, Wrap};
+
+/// How a value is made, or how the newest values become one.
+#[derive(Clone, Copy, Debug, PartialEq, Eq)]
+pub enum Act {
+    Atom(Atom),
+    Wrap(Wrap),
+    Pair(Pair),
+    Triple(Triple),
+    Quad(Quad),
+}

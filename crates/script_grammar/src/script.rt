@@ -1,0 +1,71 @@
+ghost use Rattle.std.specs.Prelude.{◌≡◌, ◌<◌, length, slice_get, Some};
+ghost use Rattle.script_grammar.specs.Scripts.{parts_of};
+
+use crate::{Leaf, Node};
+use std::marker::Model;
+
+/// A script before its names are resolved: its nodes, its root, and one leaf for each token, by which the labels of the nodes name tokens.
+#[derive(Drop)]
+pub struct Script {
+    nodes: Vec<Node>,
+    leaves: Vec<Leaf>,
+    root: u32,
+}
+
+impl Model for Script {
+    ghost use Rattle.script_grammar.specs.Scripts.{Parts, parts_of};
+
+    ghost Value = { Parts };
+
+    ghost view = { λ s. parts_of s.nodes.items s.leaves.items s.root };
+}
+
+impl Script {
+    /// A script of nodes and leaves.
+    pub fn new(nodes: Vec<Node>, leaves: Vec<Leaf>, root: u32) -> Script
+        ensures { result ≡ parts_of nodes.items leaves.items root }
+    {
+        Script {
+            nodes,
+            leaves,
+            root,
+        }
+    }
+
+    /// How many nodes there are.
+    pub fn nodes(&self) -> usize
+        ensures { result ≡ length self.now.nodes }
+    {
+        self.nodes.len()
+    }
+
+    /// How many leaves there are.
+    pub fn leaves(&self) -> usize
+        ensures { result ≡ length self.now.leaves }
+    {
+        self.leaves.len()
+    }
+
+    /// The number of the root.
+    pub fn root(&self) -> u32
+        ensures { result ≡ self.now.root }
+    {
+        self.root
+    }
+
+    /// The node with a known number.
+    pub fn node(&self, n: u32) -> Node
+        requires { n < length self.now.nodes }
+        ensures { slice_get self.now.nodes n ≡ Some result }
+    {
+        self.nodes[n as usize]
+    }
+
+    /// The leaf of the token with a known number.
+    pub fn leaf(&self, n: u32) -> &Leaf
+        requires { n < length self.now.leaves }
+        ensures { slice_get self.now.leaves n ≡ Some result.now }
+    {
+        &self.leaves[n as usize]
+    }
+}
