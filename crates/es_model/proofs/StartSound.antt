@@ -25,7 +25,7 @@ use Rattle.es_model.specs.declared.intrinsics.Class.{Class}
 use Rattle.es_model.specs.declared.intrinsics.Class.TheVariants as class
 use Rattle.es_model.specs.declared.intrinsics.Intrinsic.{Intrinsic}
 use Rattle.es_model.specs.declared.intrinsics.Intrinsic.TheVariants as intrinsic
-use Rattle.es_model.specs.Tree.{Tree}
+use Rattle.es_model.specs.Tree.{Tree, empty_tree}
 use Rattle.es_model.specs.Objects.{Object, object_at, no_object, same_key}
 use Rattle.es_model.specs.World.{Lists, kind, text_place}
 use Rattle.es_model.specs.Builtins.{BuiltinFacts, builtin_facts}
@@ -323,7 +323,7 @@ start-there i =
 
 start-intact : IsIntact start_lists
 start-intact = record {
-  objects = λ o there. (start-objects (record { nodes = []; functions = []; literals = []; sites = []; top_names = 0 }) o there).intact;
+  objects = λ o there. (start-objects (empty_tree) o there).intact;
   cells = tt;
   descriptions = start-descriptions;
   texts = start-texts;

@@ -1,12 +1,9 @@
--- Where something stands in a source: its line and its column, both from 1.
+-- Where something stands in a source.
 use Rattle.std.specs.Prelude.{◌&&◌, ◌==◌, ◌+◌, ℕ, suc, Bool, not, List, [], ◌∷◌, sum_by, if◌then◌else◌}
 use Rattle.std.specs.Char.{len_utf8}
 use Rattle.property_keys.specs.Blanks.{is_line_terminator}
+use Rattle.es_model.specs.declared.place.Place.{Place}
 use Rattle.es_model.specs.Characters.{begins}
-
-pub record Place : Type 0 where
-  pub line : ℕ
-  pub column : ℕ
 
 -- A line ends after LF, CR, U+2028 and U+2029. CR LF ends it as one: a CR directly before an LF ends no line by itself.
 abbrev pub ends_line : ℕ → List ℕ → Bool

@@ -5,7 +5,8 @@ use Rattle.std.specs.Str.{is_utf8}
 use Rattle.std.specs.Str.Lossy.{utf8_valid_len}
 use Rattle.property_keys.specs.Blanks.{is_line_terminator}
 use Rattle.es_model.specs.Characters.{starts_name, is_digit_of, begins}
-use Rattle.es_model.specs.Places.{Place, place_after}
+use Rattle.es_model.specs.declared.place.Place.{Place}
+use Rattle.es_model.specs.Places.{place_after}
 use Rattle.es_model.specs.Gaps.{gap_of, to_line_end}
 use Rattle.es_model.specs.Forms.{name_at, number_at, punctuator_at}
 use Rattle.es_model.specs.Texts.{is_quote, text_at}

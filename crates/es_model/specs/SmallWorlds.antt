@@ -18,6 +18,7 @@ use Rattle.es_model.specs.declared.answers.Completion.TheVariants.{Normal, Throw
 use Rattle.es_model.specs.declared.answers.Reply.TheVariants as reply
 use Rattle.es_model.specs.declared.numbers.SiteId.{SiteId}
 use Rattle.es_model.specs.Events.{Event, OfError, Made, MadePrototype, Added, Stored, Redefined, GivenFunctions, Deleted, ProtoSet, Closed, IndexPut, IndexRemoved, Accessed, Walk, AtProperty, AtNull, Reads, Writes, IsSmall, IsOther, OfValue, OfFunctions}
+use Rattle.es_model.specs.Tree.{empty_tree}
 use Rattle.es_model.specs.Objects.{Object, is_proxy}
 use Rattle.es_model.specs.World.{World}
 use Rattle.es_model.specs.Program.{Of, Ended, Halt, Server, run}
@@ -86,7 +87,7 @@ an_error up said name = record {
 -- an empty script, these objects and texts, so many turns and this trace
 abbrev pub world : List Object → List (List ℕ) → ℕ → List Event → World
 world objects texts turns trace = record {
-  script = record { nodes = []; functions = []; literals = []; sites = []; top_names = 0 };
+  script = empty_tree;
   lists = record { objects = objects; texts = texts; symbols = []; cells = [] };
   turns = turns;
   trace = trace;

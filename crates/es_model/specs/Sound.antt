@@ -11,7 +11,7 @@ use Rattle.es_model.specs.declared.intrinsics.Intrinsic.{Intrinsic}
 use Rattle.es_model.specs.StartObjects.{object_of}
 use Rattle.es_model.specs.StartTable.{start_kind}
 use Rattle.es_model.specs.Builtins.{BuiltinFacts, builtin_facts}
-use Rattle.es_model.specs.Tree.{Tree}
+use Rattle.es_model.specs.Tree.{Tree, top_names}
 use Rattle.es_model.specs.Objects.{Object, object_at, is_proxy, same_key}
 use Rattle.es_model.specs.World.{Lists, World, proto, kind}
 use Rattle.es_model.specs.Grows.{fixed_kind}
@@ -103,7 +103,7 @@ HasRow l (Some facts) constructor proxy = (facts.constructs ≡ constructor) × 
 abbrev pub IsRightKind : Tree → Lists → ObjectId → ObjectKind → Type 0
 -- where a function of the script is there, so are the cells of the script's top scope
 IsRightKind script l o (kind_of.Function function constructor strict) =
-    HasFlags (slice_get script.functions function.0) constructor strict × (script.top_names ≤ length l.cells)
+    HasFlags (slice_get script.functions function.0) constructor strict × (top_names script ≤ length l.cells)
 IsRightKind script l o (kind_of.Builtin row constructor proxy) = HasRow l (builtin_facts row) constructor proxy
 -- the target of a Proxy is older than the Proxy
 IsRightKind script l o (kind_of.Proxy target handler callable constructor) = IfThere (IsOlder o) target

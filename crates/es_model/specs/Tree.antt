@@ -1,9 +1,15 @@
 -- The syntax tree in a list of nodes: a child's number is below its parent's.
-use Rattle.std.specs.Prelude.{◌≡◌, ◌<◌, ◌++◌, ◌∷◌, [], ◌^◌, ℕ, List, Option, Some, None, flat_map, length, slice_get, option_to_list}
+use Rattle.std.specs.Prelude.{◌≡◌, ◌<◌, ◌++◌, ◌∷◌, [], ◌^◌, ⊤, ℕ, false, List, Option, Some, None, flat_map, length, slice_get, option_to_list}
 use Rattle.std.specs.List.{AllByRecursion}
+use Rattle.es_model.specs.declared.numbers.FunctionNo.{FunctionNo}
 use Rattle.es_model.specs.declared.numbers.NodeId.{NodeId}
+use Rattle.es_model.specs.declared.numbers.SiteId.{SiteId}
 use Rattle.es_model.specs.declared.names.Target.{Target}
 use Rattle.es_model.specs.declared.names.Target.TheVariants as target
+use Rattle.es_model.specs.declared.body.Body.{Body}
+use Rattle.es_model.specs.declared.body.DeclaredFunction.{DeclaredFunction}
+use Rattle.es_model.specs.declared.place.Place.{Place}
+use Rattle.es_model.specs.declared.statements.Block.{Block}
 use Rattle.es_model.specs.declared.statements.Catch.{Catch}
 use Rattle.es_model.specs.declared.statements.Declared.{Declared}
 use Rattle.es_model.specs.declared.statements.Statement.{Statement}
@@ -24,18 +30,38 @@ use Rattle.es_model.specs.declared.facts.FunctionFacts.{FunctionFacts}
 use Rattle.es_model.specs.declared.facts.LiteralFacts.{LiteralFacts}
 use Rattle.es_model.specs.declared.facts.SiteFacts.{SiteFacts}
 
--- The nodes, functions, object literals and sites of a script, each named by its place, and how many lexical names its top scope has: those of the `let` and `const`
--- among the script's own statements.
+-- The nodes of a script with the places of their first tokens, its functions with their code, its object literals and its sites, each named by its place, and
+-- the script's own code.
 pub record Tree : Type 0 where
   pub nodes : List Node
+  pub places : List Place
   pub functions : List FunctionFacts
+  pub bodies : List Body
   pub literals : List LiteralFacts
   pub sites : List SiteFacts
-  pub top_names : ℕ
+  pub script : Body
 
-abbrev pub tree_of : List Node → List FunctionFacts → List LiteralFacts → List SiteFacts → ℕ → Tree
-tree_of all_nodes all_functions all_literals all_sites names =
-    record { nodes = all_nodes; functions = all_functions; literals = all_literals; sites = all_sites; top_names = names }
+abbrev pub tree_of : List Node → List Place → List FunctionFacts → List Body → List LiteralFacts → List SiteFacts → Body → Tree
+tree_of all_nodes all_places all_functions all_bodies all_literals all_sites code = record {
+  nodes = all_nodes;
+  places = all_places;
+  functions = all_functions;
+  bodies = all_bodies;
+  literals = all_literals;
+  sites = all_sites;
+  script = code;
+}
+
+-- a script without items
+abbrev pub empty_body : Body
+empty_body = record { name = None; names = 0; arguments = false; declared = []; items = [] }
+
+abbrev pub empty_tree : Tree
+empty_tree = tree_of [] [] [] [] [] [] empty_body
+
+-- how many lexical names the script's top scope has (16.1.7)
+abbrev pub top_names : Tree → ℕ
+top_names tree = tree.script.names
 
 abbrev pub optional : Option NodeId → List NodeId
 optional child = option_to_list child
@@ -46,25 +72,25 @@ target_children (target.Access child) = child ∷ []
 
 abbrev pub catch_children : Option Catch → List NodeId
 catch_children None = []
-catch_children (Some catch) = catch.block
+catch_children (Some catch) = catch.block.items
 
-abbrev pub last_children : Option (List NodeId) → List NodeId
+abbrev pub last_children : Option Block → List NodeId
 last_children None = []
-last_children (Some block) = block
+last_children (Some block) = block.items
 
 abbrev pub statement_children : Statement → List NodeId
-statement_children (statement.Block body) = body
+statement_children (statement.Block block) = block.items
 statement_children (statement.Lexical constant names) = flat_map (λ (d : Declared). optional d.value) names
 statement_children statement.Empty = []
 statement_children (statement.Expression child) = child ∷ []
 statement_children (statement.If test then otherwise) = test ∷ then ∷ optional otherwise
 statement_children (statement.While test body) = test ∷ body ∷ []
-statement_children (statement.For first test step body) = optional first ++ optional test ++ optional step ++ body ∷ []
+statement_children (statement.For names first test step body) = optional first ++ optional test ++ optional step ++ body ∷ []
 statement_children statement.Break = []
 statement_children statement.Continue = []
 statement_children (statement.Return value) = optional value
 statement_children (statement.Throw value) = value ∷ []
-statement_children (statement.Try block catch finally) = block ++ catch_children catch ++ last_children finally
+statement_children (statement.Try block catch finally) = block.items ++ catch_children catch ++ last_children finally
 
 abbrev pub operator_children : Operator → List NodeId
 operator_children (operator.Comma items) = items
@@ -109,13 +135,48 @@ children_of (node.Primary p) = primary_children p
 abbrev pub IsOrdered : List Node → Type 0
 IsOrdered nodes = (n : ℕ) (parent : Node) → slice_get nodes n ≡ Some parent → AllByRecursion (λ (child : NodeId). child.0 < n) (children_of parent)
 
--- there are fewer than 2^32 of each
+-- ---- a node names functions, literals and sites that are there
+
+abbrev pub IsSite : Tree → Option SiteId → Type 0
+IsSite tree None = ⊤
+IsSite tree (Some site) = site.0 < length tree.sites
+
+abbrev pub IsFunction : Tree → FunctionNo → Type 0
+IsFunction tree function = function.0 < length tree.functions
+
+abbrev pub NamesSites : Tree → Access → Type 0
+NamesSites tree (access.Member base name read write) = IsSite tree read × IsSite tree write
+NamesSites tree (access.Index base index read write) = IsSite tree read × IsSite tree write
+NamesSites tree other = ⊤
+
+abbrev pub NamesParts : Tree → Primary → Type 0
+NamesParts tree (primary.Object literal properties) = literal.0 < length tree.literals
+NamesParts tree (primary.Function function) = IsFunction tree function
+NamesParts tree (primary.Method function) = IsFunction tree function
+NamesParts tree other = ⊤
+
+abbrev pub NamesKnown : Tree → Node → Type 0
+NamesKnown tree (node.Access a) = NamesSites tree a
+NamesKnown tree (node.Primary p) = NamesParts tree p
+NamesKnown tree other = ⊤
+
+-- the statements and the declared functions of a body are there
+pub record IsBody (tree : Tree) (body : Body) : Type 0 where
+  pub items : AllByRecursion (λ (n : NodeId). n.0 < length tree.nodes) body.items
+  pub declared : AllByRecursion (λ (d : DeclaredFunction). IsFunction tree d.function) body.declared
+
+-- ---- there are fewer than 2^32 of each, a place for each node and a body for each function
 pub record IsCounted (tree : Tree) : Type 0 where
   pub nodes : length tree.nodes < 2 ^ 32
   pub functions : length tree.functions < 2 ^ 32
   pub literals : length tree.literals < 2 ^ 32
   pub sites : length tree.sites < 2 ^ 32
+  pub places : length tree.places ≡ length tree.nodes
+  pub bodies : length tree.bodies ≡ length tree.functions
 
 pub record IsTree (tree : Tree) : Type 0 where
   pub counted : IsCounted tree
   pub ordered : IsOrdered tree.nodes
+  pub known : AllByRecursion (NamesKnown tree) tree.nodes
+  pub bodies : AllByRecursion (IsBody tree) tree.bodies
+  pub script : IsBody tree tree.script

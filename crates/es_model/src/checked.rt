@@ -1,18 +1,24 @@
 ghost use Rattle.std.specs.Prelude.{◌≡◌, ◌<◌, length, slice_get, Some};
 ghost use Rattle.std.specs.List.{AllByRecursion};
-ghost use Rattle.es_model.specs.Tree.{IsTree, children_of};
+ghost use Rattle.es_model.specs.Tree.{IsTree, children_of, top_names, tree_of};
 
-use crate::{FunctionFacts, FunctionNo, LiteralFacts, LiteralNo, Node, NodeId, SiteFacts, SiteId};
+use crate::{
+    Body, FunctionFacts, FunctionNo, LiteralFacts, LiteralNo, Node, NodeId, Place, SiteFacts,
+    SiteId,
+};
 use std::marker::Model;
 
-/// The syntax tree of a script. A child's number is below its parent's.
+/// The syntax tree of a script whose names are resolved. A child's number is below its parent's, each number in it is that of something that is there, and there
+/// are fewer than 2^32 of each.
 #[derive(Drop)]
 pub struct Checked {
     nodes: Vec<Node>,
+    places: Vec<Place>,
     functions: Vec<FunctionFacts>,
+    bodies: Vec<Body>,
     literals: Vec<LiteralFacts>,
     sites: Vec<SiteFacts>,
-    top_names: u32,
+    script: Body,
 }
 
 impl Model for Checked {
@@ -20,12 +26,36 @@ impl Model for Checked {
 
     ghost Value = { Tree };
 
-    ghost view = { λ c. tree_of c.nodes.items c.functions.items c.literals.items c.sites.items c.top_names };
+    ghost view = { λ c. tree_of c.nodes.items c.places.items c.functions.items c.bodies.items c.literals.items c.sites.items c.script };
 
-    ghost invariant = { λ c. IsTree (tree_of c.nodes.items c.functions.items c.literals.items c.sites.items c.top_names) };
+    ghost invariant = { λ c. IsTree (tree_of c.nodes.items c.places.items c.functions.items c.bodies.items c.literals.items c.sites.items c.script) };
 }
 
 impl Checked {
+    /// A tree of all its parts, which needs to be a good one.
+    pub fn new(
+        nodes: Vec<Node>,
+        places: Vec<Place>,
+        functions: Vec<FunctionFacts>,
+        bodies: Vec<Body>,
+        literals: Vec<LiteralFacts>,
+        sites: Vec<SiteFacts>,
+        script: Body,
+    ) -> Checked
+        requires { IsTree (tree_of nodes.items places.items functions.items bodies.items literals.items sites.items script) }
+        ensures { result ≡ tree_of nodes.items places.items functions.items bodies.items literals.items sites.items script }
+    {
+        Checked {
+            nodes,
+            places,
+            functions,
+            bodies,
+            literals,
+            sites,
+            script,
+        }
+    }
+
     /// How many nodes there are.
     pub fn nodes(&self) -> u32
         ensures { result ≡ length self.now.nodes }
@@ -56,9 +86,34 @@ impl Checked {
 
     /// How many lexical names the script's top scope has, which are those of the `let` and `const` among the script's own statements (ECMA-262, 16.1.7).
     pub fn top_names(&self) -> u32
-        ensures { result ≡ self.now.top_names }
+        ensures { result ≡ top_names self.now }
     {
-        self.top_names
+        self.script.names
+    }
+
+    /// The script's own code.
+    pub fn script(&self) -> &Body
+        ensures script { result.now ≡ self.now.script }
+        ensures tree { IsTree self.now }
+    {
+        &self.script
+    }
+
+    /// The code of the function with a known number.
+    pub fn body(&self, f: FunctionNo) -> &Body
+        requires { f.0 < length self.now.functions }
+        ensures body { slice_get self.now.bodies f.0 ≡ Some result.now }
+        ensures tree { IsTree self.now }
+    {
+        &self.bodies[f.0 as usize]
+    }
+
+    /// Where the first token of the node with a known number stands.
+    pub fn place(&self, n: NodeId) -> Place
+        requires { n.0 < length self.now.nodes }
+        ensures { slice_get self.now.places n.0 ≡ Some result }
+    {
+        self.places[n.0 as usize]
     }
 
     /// The node with a known number.

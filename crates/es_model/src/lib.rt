@@ -2,6 +2,7 @@
 #![tactic(auto)]
 
 mod answers;
+mod body;
 mod budget;
 mod checked;
 mod expressions;
@@ -18,6 +19,7 @@ mod node;
 mod nth;
 mod numbers;
 mod owned;
+mod place;
 mod primaries;
 mod requests;
 mod small_worlds;
@@ -31,6 +33,7 @@ mod statements;
 mod token;
 
 pub use answers::{Completion, Halted, Reply, Stop, Turn};
+pub use body::{Body, DeclaredFunction};
 pub use budget::Turns;
 pub use checked::Checked;
 pub use expressions::{
@@ -51,6 +54,7 @@ pub use names::{Binding, Named, Target};
 pub use node::Node;
 pub use numbers::{FunctionNo, LiteralNo, NodeId, SiteId};
 pub use owned::OwnProperty;
+pub use place::Place;
 pub use primaries::{Key, Primary, Property};
 pub use requests::{Operation, Request};
 pub use small_worlds::{
@@ -64,7 +68,7 @@ pub use start_laws::{
 };
 pub use start_objects::start_intrinsic;
 pub use start_texts::{StartText, WellKnown, start_text};
-pub use statements::{Catch, Declared, Statement};
+pub use statements::{Block, Catch, Declared, Statement};
 pub use token::{Token, TokenKind};
 
 #[cfg(test)]

@@ -6,10 +6,12 @@ use property_keys::Units;
 pub enum Binding {
     /// On the global object: the name has no binding of the script.
     Global,
-    /// In the cell with that number of the script's top scope.
-    Top(u32),
-    /// In the cell with that number of the body that runs.
-    Own(u32),
+    /// In the cell with that number, a lexical name of the script's top scope.
+    Top { cell: u32, constant: bool },
+    /// In a cell of the body that runs. The names of a body that are in force at some point have places from 0, those of an outer scope before those of an inner one.
+    Own { place: u32, constant: bool },
+    /// The arguments object of the running function.
+    Arguments,
     /// The running function, by the name of its expression.
     Callee,
 }

@@ -7,17 +7,24 @@ pub struct Declared {
     pub value: Option<NodeId>,
 }
 
+/// The statements and declarations of a block, and how many lexical names its scope has.
+#[derive(Drop)]
+pub struct Block {
+    pub names: u32,
+    pub items: Items<NodeId>,
+}
+
 /// A catch, with its parameter, if it has one.
 #[derive(Drop)]
 pub struct Catch {
     pub parameter: Option<Named>,
-    pub block: Items<NodeId>,
+    pub block: Block,
 }
 
 /// A statement or a lexical declaration (ECMA-262, clause 14).
 #[derive(Drop)]
 pub enum Statement {
-    Block(Items<NodeId>),
+    Block(Block),
     Lexical {
         constant: bool,
         names: Items<Declared>,
@@ -33,8 +40,9 @@ pub enum Statement {
         test: NodeId,
         body: NodeId,
     },
-    /// The first part is an expression or a lexical declaration.
+    /// The first part is an expression or a lexical declaration, whose names are those of the head's scope.
     For {
+        names: u32,
         first: Option<NodeId>,
         test: Option<NodeId>,
         step: Option<NodeId>,
@@ -45,8 +53,8 @@ pub enum Statement {
     Return(Option<NodeId>),
     Throw(NodeId),
     Try {
-        block: Items<NodeId>,
+        block: Block,
         catch: Option<Catch>,
-        finally: Option<Items<NodeId>>,
+        finally: Option<Block>,
     },
 }

@@ -3,7 +3,7 @@ use Rattle.std.specs.Prelude.{suc, ◌≡◌, ℕ, ◌<◌, ◌≤◌, Bool, tru
 use Rattle.es_model.specs.declared.token.Token.{Token}
 use Rattle.es_model.specs.declared.faults.FaultCode.TheVariants as code
 use Rattle.es_model.specs.declared.faults.SourceFault.{SourceFault}
-use Rattle.es_model.specs.Places.{Place}
+use Rattle.es_model.specs.declared.place.Place.{Place}
 use Rattle.es_model.specs.Reading.{Reading, fault_at}
 use Rattle.script_grammar.specs.declared.sign.Sign.TheVariants.{Token as of, Inserted as put}
 use Rattle.script_grammar.specs.declared.kinds.Bracket.TheVariants as b
