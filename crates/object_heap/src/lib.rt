@@ -1,13 +1,16 @@
-// A library with one function.
+//! The objects of a run with their properties, and its texts, Symbols, cells and turns.
 #![tactic(auto)]
 
-ghost use Rattle.std.specs.Prelude.{◌≡◌};
-ghost use Rattle.object_heap.specs.Echo.{echo_of};
+mod beside;
+mod cells;
+mod creation;
+mod errors;
+mod heap;
+mod held;
+mod objects;
+mod origins;
+mod properties;
+mod property_list;
+mod starting;
 
-// The `ensures` clause is the contract: what `echo` returns is `echo_of` of its argument, a definition
-// in `specs/Echo.antt`, which a caller's clause can cite too.
-pub fn echo(x: usize) -> usize
-    ensures { result ≡ echo_of x }
-{
-    x
-}
+pub use heap::Heap;
