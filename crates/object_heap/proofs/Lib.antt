@@ -1,5 +1,6 @@
 pub mod Change
 pub mod ErrorsMade
+pub mod KeyLists
 pub mod KeyPlaces
 pub mod OriginNumbers
 pub mod PropertyLists

@@ -36,7 +36,7 @@ impl Heap {
     }
 
     /// The number of a text that is there: a text that is not there is empty.
-    fn known(&self, text: TextId) -> TextId
+    pub(crate) fn known(&self, text: TextId) -> TextId
         ensures table { IsTable (self.now).texts }
         ensures known { result.0 < length (self.now).texts }
         ensures same { text_at (self.now).texts result.0 ≡ text_at (self.now).texts text.0 }

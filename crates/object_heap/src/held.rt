@@ -2,11 +2,13 @@ ghost use Rattle.std.specs.Prelude.{◌≡◌, false, IfOk, IsSome, None, OnErr,
 ghost use Rattle.es_model.specs.Objects.{is_proxy, new_object_of, revoked_kind, unmapped_kind};
 ghost use Rattle.es_model.specs.StartTable.{start_properties};
 ghost use Rattle.es_model.specs.StartWorld.{start_object};
+ghost use Rattle.object_heap.specs.Keys.{seen_keys};
 ghost use Rattle.object_heap.specs.Seen.{find_seen, seen, seen_added, seen_removed, seen_replaced};
 
+use crate::listing::keys_of;
 use crate::property_list::{place_of, take_out};
 use descriptors::Complete;
-use es_model::{Intrinsic, ObjectKind, OwnProperty};
+use es_model::{Intrinsic, KeyList, ObjectKind, OwnProperty};
 use property_keys::{NoMemory, ObjectId, PropKey};
 use std::alloc::Global;
 use std::marker::Model;
@@ -103,6 +105,13 @@ impl Held {
         ensures { result ≡ self.now.extensible }
     {
         self.extensible
+    }
+
+    /// Its own keys, where so many code units come before.
+    pub(crate) fn keys(&self, alloc: Global, count: u32) -> Result<KeyList, NoMemory>
+        ensures { IfOk result (λ keys. keys ≡ seen_keys count self.now) }
+    {
+        keys_of(alloc, &self.properties, count)
     }
 
     /// A new property. After `NoMemory` the object is as before.

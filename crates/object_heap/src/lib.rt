@@ -7,6 +7,7 @@ mod creation;
 mod errors;
 mod heap;
 mod held;
+mod listing;
 mod objects;
 mod origins;
 mod properties;

@@ -2,11 +2,13 @@ ghost use Rattle.std.specs.Prelude.{◌≡◌, ◌&&◌, ◌++◌, ◌∷◌, []
 ghost use Rattle.es_model.specs.Changes.{same_proto};
 ghost use Rattle.es_model.specs.Objects.{is_proxy, new_object_of, revoked_kind, unmapped_kind};
 ghost use Rattle.es_model.specs.StartWorld.{start_lists};
+ghost use Rattle.object_heap.specs.Keys.{seen_keys};
 ghost use Rattle.object_heap.specs.Seen.{find_seen, no_seen, put_seen, seen, seen_added, seen_at, seen_removed, seen_replaced};
 
 use crate::held::{Held, is_proxy};
 use descriptors::Complete;
-use es_model::{ObjectKind, start_intrinsic};
+use crate::listing::keys_of;
+use es_model::{KeyList, ObjectKind, start_intrinsic};
 use property_keys::{NoMemory, ObjectId, PropKey};
 use std::alloc::Global;
 use std::marker::Model;
@@ -73,6 +75,21 @@ impl Objects {
         match self.held(object) {
             Some(held) => held.own(key),
             None => None,
+        }
+    }
+
+    /// The own keys, where so many code units come before.
+    pub(crate) fn keys(
+        &self,
+        alloc: Global,
+        object: ObjectId,
+        count: u32,
+    ) -> Result<KeyList, NoMemory>
+        ensures { IfOk result (λ keys. keys ≡ seen_keys count (seen_at self.now object)) }
+    {
+        match self.held(object) {
+            Some(held) => held.keys(alloc, count),
+            None => keys_of(alloc, &[], count),
         }
     }
 
