@@ -18,7 +18,6 @@ const ALL_FALSE: Attributes = Attributes {
 ///
 /// An absent field becomes Undefined or false. The property is an accessor exactly where `get` or `set` is present.
 pub fn complete(wanted: &Descriptor) -> Complete
-    requires { IsTrue (is_sound wanted.now) }
     ensures { result ≡ completed wanted.now }
 {
     if wanted.is_accessor() {

@@ -17,7 +17,7 @@ pub struct Descriptor {
 }
 
 impl Descriptor {
-    ghost use Rattle.descriptors.specs.Kinds.{is_accessor_descriptor, is_data_descriptor};
+    ghost use Rattle.descriptors.specs.Kinds.{is_accessor_descriptor, is_data_descriptor, is_without_fields};
 
     /// Whether it has a field of an accessor property (6.2.6.1).
     pub(crate) fn is_accessor(&self) -> bool
@@ -31,6 +31,16 @@ impl Descriptor {
         ensures { result ≡ is_data_descriptor self.now }
     {
         self.value.is_some() || self.writable.is_some()
+    }
+
+    /// Whether it has no field at all.
+    pub(crate) fn is_without_fields(&self) -> bool
+        ensures { result ≡ is_without_fields self.now }
+    {
+        !self.is_accessor()
+            && !self.is_data()
+            && self.enumerable.is_none()
+            && self.configurable.is_none()
     }
 }
 

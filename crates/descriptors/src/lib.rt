@@ -10,6 +10,7 @@ mod property;
 mod refusals;
 #[cfg(test)]
 mod tests;
+mod unchanged;
 mod validation;
 
 pub use completing::{complete, from_complete};

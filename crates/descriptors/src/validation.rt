@@ -1,9 +1,9 @@
-ghost use Rattle.std.specs.Prelude.{◌≡◌, IsTrue, option_copied};
-ghost use Rattle.descriptors.specs.Kinds.{is_sound};
+ghost use Rattle.std.specs.Prelude.{◌≡◌, option_copied};
 ghost use Rattle.descriptors.specs.Validation.{change_of, verdict_of, is_allowed};
 
 use crate::completing::{applied, complete};
 use crate::refusals::is_refused;
+use crate::unchanged::changes_nothing;
 use crate::{Complete, Descriptor};
 
 /// What becomes of a property that is to be defined.
@@ -20,7 +20,6 @@ pub enum Verdict {
 /// What a definition makes of the property that stands there, if one does (ValidateAndApplyPropertyDescriptor,
 /// ECMA-262, 10.1.6.3).
 pub fn validate(extensible: bool, wanted: &Descriptor, current: Option<&Complete>) -> Verdict
-    requires { IsTrue (is_sound wanted.now) }
     ensures { result ≡ verdict_of extensible wanted.now (option_copied current.entry) }
 {
     match current {
@@ -32,7 +31,6 @@ pub fn validate(extensible: bool, wanted: &Descriptor, current: Option<&Complete
 
 /// Whether a property may be defined so (IsCompatiblePropertyDescriptor, ECMA-262, 10.1.6.2).
 pub fn is_compatible(extensible: bool, wanted: &Descriptor, current: Option<&Complete>) -> bool
-    requires { IsTrue (is_sound wanted.now) }
     ensures { result ≡ is_allowed (verdict_of extensible wanted.now (option_copied current.entry)) }
 {
     !matches!(validate(extensible, wanted, current), Verdict::Refuse)
@@ -40,16 +38,17 @@ pub fn is_compatible(extensible: bool, wanted: &Descriptor, current: Option<&Com
 
 /// What a definition makes of a property that stands there.
 fn change(wanted: &Descriptor, current: &Complete) -> Verdict
-    requires { IsTrue (is_sound wanted.now) }
     ensures { result ≡ change_of wanted.now current.now }
 {
+    if wanted.is_without_fields() {
+        return Verdict::Keep;
+    }
     if is_refused(wanted, current) {
         return Verdict::Refuse;
     }
-    let property = applied(wanted, current);
-    if property.is_same(current) {
-        Verdict::Keep
-    } else {
-        Verdict::Apply(property)
+    if changes_nothing(wanted, current) {
+        return Verdict::Keep;
     }
+    let property = applied(wanted, current);
+    Verdict::Apply(property)
 }

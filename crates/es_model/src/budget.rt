@@ -4,6 +4,7 @@ use crate::Halted;
 use std::marker::Model;
 
 /// The turns that are left of a run's budget.
+#[derive(Drop)]
 pub struct Turns {
     left: u64,
 }

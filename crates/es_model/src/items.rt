@@ -1,4 +1,4 @@
-ghost use Rattle.std.specs.Prelude.{◌≡◌, ◌<◌, ◌++◌, ◌∷◌, [], List, length, slice_get, Some, OnOk, OnErr};
+ghost use Rattle.std.specs.Prelude.{◌≡◌, ◌<◌, ◌++◌, ◌∷◌, [], List, length, slice_get, slice_set, Some, OnOk, OnErr};
 
 use property_keys::NoMemory;
 use std::alloc::Global;
@@ -36,6 +36,15 @@ impl<T: Drop> Items<T> {
         match self.all.push(item) {
             Ok(()) => Ok(()),
             Err(_) => Err(NoMemory),
+        }
+    }
+
+    /// Puts an item in the place of another. Past the end nothing changes.
+    pub fn set(&mut self, i: usize, item: T)
+        ensures { self.new ≡ slice_set self.old i item }
+    {
+        if i < self.all.len() {
+            self.all[i] = item;
         }
     }
 

@@ -42,6 +42,13 @@ impl Texts {
         })
     }
 
+    /// How many texts there are.
+    pub fn len(&self) -> usize
+        ensures { result ≡ length self.now }
+    {
+        self.table.len()
+    }
+
     /// The number of these units, new or known. There is room for 2^32 - 1 texts, and past them the answer is `NoMemory`.
     pub fn intern(&mut self, units: Units) -> Result<TextId, NoMemory>
         ensures { Interns self.old self.new units result }
@@ -86,7 +93,6 @@ impl Texts {
 
     /// The number of the canonical decimal text of a whole number (ECMA-262, 6.1.6.1.20).
     pub fn whole_text(&mut self, n: i64) -> Result<TextId, NoMemory>
-        requires { IsWhole n }
         ensures { Interns self.old self.new (whole_units n) result }
     {
         let units = decimal_units(self.alloc, n)?;

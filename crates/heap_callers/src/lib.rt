@@ -1,0 +1,93 @@
+//! Callers of the object heap with four calls in a row, which show that its contracts are enough for them: there is no proof file.
+#![tactic(auto, using(object_heap::specs::Stands::goes_none, object_heap::specs::Stands::goes_then))]
+
+ghost use Rattle.es_model.specs.Stages.{stage_of};
+ghost use Rattle.es_model.specs.World.{World};
+ghost use Rattle.object_heap.specs.Stands.{StandsFor};
+ghost use Rattle.object_heap.specs.Stops.{Stops};
+ghost use Rattle.heap_callers.specs.Programs.{no_rest, put_program, strip_program};
+
+use descriptors::Descriptor;
+use es_model::{Completion, ObjectKind, Reply, Stop, Turn};
+use object_heap::Heap;
+use property_keys::{Ledger, ObjectId, PropKey, Steps, Value};
+use slack_tracking::OriginKind;
+
+/// Takes a turn, and makes an object with one property.
+pub fn put<L: Ledger>(
+    heap: &mut Heap,
+    key: PropKey,
+    wanted: &Descriptor,
+    steps: &mut Steps<L>,
+) -> Result<Turn<u32>, Stop>
+    ensures { (w : World) → StandsFor heap.old w → Stops no_rest heap.old heap.new w (stage_of (put_program key wanted.now) w) result }
+{
+    heap.charge(1)?;
+    let origin = heap.origin_for(OriginKind::Plain, 4)?;
+    let object = heap.make(ObjectKind::Ordinary, origin, None, steps)?;
+    heap.define_own(object, key, wanted, steps)?;
+    Ok(Turn::Done(Completion::Normal(Reply::Value(Value::Object(object)))))
+}
+
+/// Takes a turn, and strips an object of a property, its prototype and all that could come.
+pub fn strip<L: Ledger>(
+    heap: &mut Heap,
+    object: ObjectId,
+    key: PropKey,
+    steps: &mut Steps<L>,
+) -> Result<Turn<u32>, Stop>
+    ensures { (w : World) → StandsFor heap.old w → Stops no_rest heap.old heap.new w (stage_of (strip_program object key) w) result }
+{
+    heap.charge(1)?;
+    let is_deleted = heap.delete_own(object, key, steps)?;
+    heap.set_proto(object, None, steps)?;
+    heap.prevent(object, steps)?;
+    Ok(Turn::Done(Completion::Normal(Reply::Flag(is_deleted))))
+}
+
+#[cfg(test)]
+mod tests {
+    use super::*;
+    use descriptors::Complete;
+    use property_keys::{Attributes, Counting};
+    use std::test::Fail;
+
+    #[test]
+    fn four_calls(rt: HostRuntime) -> Result<(), Fail> {
+        let mut heap = Heap::new(rt.alloc(), 2)?;
+        let mut steps = Steps::new(Counting::new());
+        let wanted = Descriptor {
+            value: Some(Value::Whole(7)),
+            configurable: Some(true),
+            ..Descriptor::default()
+        };
+        let made = put(&mut heap, PropKey::Index(3), &wanted, &mut steps)?;
+        // the 28 start objects come first
+        assert!(rt;
+            matches!(
+                made,
+                Turn::Done(Completion::Normal(Reply::Value(Value::Object(ObjectId(28)))))
+            )
+        );
+        let property = Complete::Stored {
+            value: Value::Whole(7),
+            attributes: Attributes {
+                writable: false,
+                enumerable: false,
+                configurable: true,
+            },
+        };
+        assert_eq!(rt;
+            heap.own(ObjectId(28), PropKey::Index(3), &mut steps),
+            Some(property)
+        );
+        let stripped = strip(&mut heap, ObjectId(28), PropKey::Index(3), &mut steps)?;
+        assert!(rt; matches!(stripped, Turn::Done(Completion::Normal(Reply::Flag(true)))));
+        assert_eq!(rt; heap.own(ObjectId(28), PropKey::Index(3), &mut steps), None);
+        assert!(rt; !heap.extensible(ObjectId(28)));
+        // the two turns are taken
+        let halted = strip(&mut heap, ObjectId(28), PropKey::Index(3), &mut steps);
+        assert!(rt; matches!(halted, Err(Stop::Halted)));
+        Ok(())
+    }
+}

@@ -1,0 +1,15 @@
+pub mod Ascending
+pub mod Change
+pub mod ErrorsMade
+pub mod KeyLists
+pub mod KeyPlaces
+pub mod OriginNumbers
+pub mod PropertyLists
+pub mod Refusals
+pub mod Retaining
+pub mod SeenFacts
+pub mod Standing
+pub mod StartLists
+pub mod TextCalls
+pub mod TextNumbers
+pub mod Views

@@ -1,0 +1,11 @@
+pub mod Codes
+pub mod Errors
+pub mod Keys
+pub mod Laws
+pub mod Origins
+pub mod Places
+pub mod Retains
+pub mod Seen
+pub mod Stands
+pub mod Stops
+pub mod Tables

@@ -1,0 +1,77 @@
+-- The origins of a heap: for each number what makes its objects, and what that is in a script.
+use Rattle.std.specs.Prelude.{ℕ, suc, Bool, true, false, ◌&&◌, if◌then◌else◌, List, [], ◌∷◌, ◌++◌, length, nat_eq, slice_index_or}
+use Rattle.map_store.specs.declared.OriginId.{OriginId}
+use Rattle.slack_tracking.specs.declared.LiteralPlace.{LiteralPlace}
+use Rattle.slack_tracking.specs.declared.OriginKind.{OriginKind}
+use Rattle.slack_tracking.specs.declared.OriginKind.TheVariants as origin
+use Rattle.es_model.specs.declared.facts.FunctionFacts.{FunctionFacts}
+use Rattle.es_model.specs.declared.facts.LiteralFacts.{LiteralFacts}
+use Rattle.es_model.specs.Tree.{Tree}
+use Rattle.es_model.specs.Events.{Origin, OfPlain, OfFunction, OfArray, OfArguments, OfWrapper, OfError, OfLiteral, OfConstructor, Constructed}
+use Rattle.es_model.specs.World.{World}
+use Rattle.es_model.specs.Changes.{Constructing, changed}
+use Rattle.object_heap.specs.Stands.{HeapView}
+
+abbrev pub same_place : LiteralPlace → LiteralPlace → Bool
+same_place a b = nat_eq a.line b.line && nat_eq a.column b.column
+
+abbrev pub same_origin : OriginKind → OriginKind → Bool
+same_origin origin.Plain origin.Plain = true
+same_origin origin.Function origin.Function = true
+same_origin origin.Array origin.Array = true
+same_origin origin.Arguments origin.Arguments = true
+same_origin origin.Wrapper origin.Wrapper = true
+same_origin origin.Error origin.Error = true
+same_origin (origin.Literal a) (origin.Literal b) = same_place a b
+same_origin (origin.Constructor a) (origin.Constructor b) = same_place a b
+same_origin a b = false
+
+-- ---- numbers
+
+-- what makes the objects of a number. At a number that was not given out it is an operation that makes plain objects
+abbrev pub origin_at : HeapView → OriginId → OriginKind
+origin_at heap id = slice_index_or heap.origins id.0 origin.Plain
+
+-- the place of a kind, or how many there are where it is not there
+abbrev pub origin_place : List OriginKind → OriginKind → ℕ
+origin_place [] kind = 0
+origin_place (k ∷ ks) kind = if same_origin k kind then 0 else suc (origin_place ks kind)
+
+-- the number that a kind has or gets
+unfoldable pub origin_number : HeapView → OriginKind → OriginId
+origin_number heap kind = record { 0 = origin_place heap.origins kind }
+
+-- the kinds once a kind has a number: a new one stands last
+abbrev pub with_origin : List OriginKind → OriginKind → List OriginKind
+with_origin [] kind = kind ∷ []
+with_origin (k ∷ ks) kind = if same_origin k kind then k ∷ ks else k ∷ with_origin ks kind
+
+-- ---- what they are in a script
+
+abbrev pub begins_at : ℕ → ℕ → LiteralPlace → Bool
+begins_at line column place = nat_eq line place.line && nat_eq column place.column
+
+-- the number of the object literal at a place, or how many there are where none is there
+abbrev pub literal_at : List LiteralFacts → LiteralPlace → ℕ
+literal_at [] place = 0
+literal_at (l ∷ ls) place = if begins_at l.line l.column place then 0 else suc (literal_at ls place)
+
+-- the number of the function at a place
+abbrev pub function_at : List FunctionFacts → LiteralPlace → ℕ
+function_at [] place = 0
+function_at (f ∷ fs) place = if begins_at f.line f.column place then 0 else suc (function_at fs place)
+
+abbrev pub origin_in : Tree → OriginKind → Origin
+origin_in script origin.Plain = OfPlain
+origin_in script origin.Function = OfFunction
+origin_in script origin.Array = OfArray
+origin_in script origin.Arguments = OfArguments
+origin_in script origin.Wrapper = OfWrapper
+origin_in script origin.Error = OfError
+origin_in script (origin.Literal place) = OfLiteral (record { 0 = literal_at script.literals place })
+origin_in script (origin.Constructor place) = OfConstructor (record { 0 = function_at script.functions place })
+
+-- the world after a construction has ended. Only functions of the script construct
+abbrev pub constructed_by : World → OriginKind → World
+constructed_by w (origin.Constructor place) = changed (Constructing (record { 0 = function_at w.script.functions place })) w
+constructed_by w other = w

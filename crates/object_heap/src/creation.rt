@@ -1,0 +1,90 @@
+ghost use Rattle.std.specs.Prelude.{◌≡◌, IfOk, Option, OnErr, OnOk};
+ghost use Rattle.es_model.specs.Changes.{Making, Revoking, Unmapping, changed, made};
+ghost use Rattle.es_model.specs.Events.{Origin};
+ghost use Rattle.es_model.specs.World.{World, kind as kind_of, new_object};
+ghost use Rattle.object_heap.specs.Origins.{constructed_by, origin_at, origin_in, origin_number};
+ghost use Rattle.object_heap.specs.Retains.{Retains};
+ghost use Rattle.object_heap.specs.Stands.{Goes, Keeps, StandsFor};
+
+use crate::Heap;
+use es_model::ObjectKind;
+use map_store::OriginId;
+use property_keys::{Ledger, NoMemory, ObjectId, Steps};
+use slack_tracking::OriginKind;
+
+impl Heap {
+    /// The one origin of a kind, new or known. No list changes, and nothing hangs on the number of places yet.
+    pub fn origin_for(&mut self, kind: OriginKind, _places: u32) -> Result<OriginId, NoMemory>
+        ensures number { IfOk result (λ id. id ≡ origin_number self.old kind) }
+        ensures kind { IfOk result (λ id. origin_at self.new id ≡ kind) }
+        ensures ok { OnOk result ((w : World) → StandsFor self.old w → Goes self.old self.new w w) }
+        ensures err { OnErr result (Keeps self.old self.new) }
+        ensures retains { Retains self.old self.new }
+    {
+        let id = self.origins.number(kind)?;
+        Ok(id)
+    }
+
+    /// A construction by a function of the script has ended: the function that the origin names.
+    pub fn constructed(&mut self, origin: OriginId)
+        ensures goes { (w : World) → StandsFor self.old w → Goes self.old self.new w (constructed_by w (origin_at self.old origin)) }
+        ensures retains { Retains self.old self.new }
+    {
+        let _ = self.origins.kind(origin);
+    }
+
+    /// A new object, for each origin that its event may name.
+    pub(crate) fn put(
+        &mut self,
+        kind: ObjectKind,
+        proto: Option<ObjectId>,
+    ) -> Result<ObjectId, NoMemory>
+        ensures object { IfOk result (λ object. (w : World) → StandsFor self.old w → object ≡ new_object w.lists) }
+        ensures ok { OnOk result ((w : World) (origin : Origin) → StandsFor self.old w → Goes self.old self.new w (made w kind origin proto)) }
+        ensures err { OnErr result (Keeps self.old self.new) }
+        ensures retains { Retains self.old self.new }
+    {
+        let object = self.objects.make(self.alloc, kind, proto)?;
+        Ok(object)
+    }
+
+    /// A new object without properties. A Proxy has no prototype and takes no properties (ECMA-262, 10.5).
+    #[tactic(auto, unfolding(es_model::specs::Changes::changed))]
+    pub fn make<L: Ledger>(
+        &mut self,
+        kind: ObjectKind,
+        origin: OriginId,
+        proto: Option<ObjectId>,
+        _steps: &mut Steps<L>,
+    ) -> Result<ObjectId, NoMemory>
+        ensures object { IfOk result (λ object. (w : World) → StandsFor self.old w → object ≡ new_object w.lists) }
+        ensures ok { OnOk result ((w : World) → StandsFor self.old w → Goes self.old self.new w (changed (Making kind (origin_in w.script (origin_at self.old origin)) proto) w)) }
+        ensures err { OnErr result (Keeps self.old self.new) }
+        ensures retains { Retains self.old self.new }
+    {
+        self.put(kind, proto)
+    }
+
+    /// What an object is.
+    pub fn kind(&self, object: ObjectId) -> &ObjectKind
+        ensures { (w : World) → StandsFor self.now w → result.now ≡ kind_of w.lists object }
+    {
+        self.objects.kind(object)
+    }
+
+    /// A Proxy loses its target and its handler (10.5). At an object of another kind nothing changes.
+    pub fn revoke(&mut self, object: ObjectId)
+        ensures goes { (w : World) → StandsFor self.old w → Goes self.old self.new w (changed (Revoking object) w) }
+        ensures retains { Retains self.old self.new }
+    {
+        self.objects.revoke(object);
+    }
+
+    /// An index of an arguments object shares no cell any more (10.4.4). At an object of another kind nothing changes.
+    pub fn unmap(&mut self, object: ObjectId, i: u32)
+        ensures goes { (w : World) → StandsFor self.old w → Goes self.old self.new w (changed (Unmapping object i) w) }
+        ensures retains { Retains self.old self.new }
+    {
+        self.objects.unmap(object, i);
+    }
+}

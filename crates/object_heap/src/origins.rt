@@ -1,0 +1,98 @@
+ghost use Rattle.std.specs.Prelude.{◌≡◌, ◌↔◌, [], slice_index_or, IfOk, IsTrue, OnErr, OnOk};
+ghost use Rattle.slack_tracking.specs.declared.OriginKind.TheVariants as origin;
+ghost use Rattle.object_heap.specs.Origins.{origin_place, same_origin, same_place, with_origin};
+
+use map_store::OriginId;
+use property_keys::NoMemory;
+use slack_tracking::{LiteralPlace, OriginKind};
+use std::alloc::Global;
+use std::marker::Model;
+
+/// The kinds of origins that have a number, in the order of their numbers.
+#[derive(Drop)]
+pub(crate) struct Origins {
+    kinds: Vec<OriginKind>,
+}
+
+impl Model for Origins {
+    ghost use Rattle.std.specs.Prelude.{List};
+    ghost use Rattle.slack_tracking.specs.declared.OriginKind.{OriginKind};
+
+    ghost Value = { List OriginKind };
+
+    ghost view = { λ o. o.kinds.items };
+}
+
+impl Origins {
+    pub(crate) fn new(alloc: Global) -> Origins
+        ensures { result ≡ [] }
+    {
+        Origins {
+            kinds: Vec::new(alloc),
+        }
+    }
+
+    /// The number of a kind, new or known. There is room for 2^32 - 1.
+    pub(crate) fn number(&mut self, kind: OriginKind) -> Result<OriginId, NoMemory>
+        ensures number { IfOk result (λ id. id ≡ record { 0 = origin_place self.old kind }) }
+        ensures ok { OnOk result (self.new ≡ with_origin self.old kind) }
+        ensures err { OnErr result (self.new ≡ self.old) }
+    {
+        let place = place_of(&self.kinds, kind);
+        if place >= u32::MAX as usize {
+            return Err(NoMemory);
+        }
+        if place < self.kinds.len() {
+            return Ok(OriginId(place as u32));
+        }
+        match self.kinds.push(kind) {
+            Ok(()) => Ok(OriginId(place as u32)),
+            Err(_) => Err(NoMemory),
+        }
+    }
+
+    /// The kind of a number. At a number that was not given out it is `Plain`.
+    pub(crate) fn kind(&self, id: OriginId) -> OriginKind
+        ensures { result ≡ slice_index_or self.now id.0 origin.Plain }
+    {
+        match self.kinds.get(id.0 as usize) {
+            Some(kind) => *kind,
+            None => OriginKind::Plain,
+        }
+    }
+}
+
+/// The place of a kind, or how many there are where it is not there.
+fn place_of(kinds: &[OriginKind], kind: OriginKind) -> usize
+    ensures { result ≡ origin_place kinds.now kind }
+{
+    let mut place = 0;
+    while place < kinds.len() && !is_same_origin(kinds[place], kind) {
+        place += 1;
+    }
+    place
+}
+
+fn is_same_origin(a: OriginKind, b: OriginKind) -> bool
+    ensures value { result ≡ same_origin a b }
+    ensures equal { IsTrue result ↔ (a ≡ b) }
+{
+    match (a, b) {
+        (OriginKind::Plain, OriginKind::Plain)
+        | (OriginKind::Function, OriginKind::Function)
+        | (OriginKind::Array, OriginKind::Array)
+        | (OriginKind::Arguments, OriginKind::Arguments)
+        | (OriginKind::Wrapper, OriginKind::Wrapper)
+        | (OriginKind::Error, OriginKind::Error) => true,
+        (OriginKind::Literal(a), OriginKind::Literal(b)) => is_same_place(a, b),
+        (OriginKind::Constructor(a), OriginKind::Constructor(b)) => is_same_place(a, b),
+        _ => false,
+    }
+}
+
+fn is_same_place(a: LiteralPlace, b: LiteralPlace) -> bool
+    ensures value { result ≡ same_place a b }
+    ensures equal { IsTrue result ↔ (a ≡ b) }
+{
+    a.line == b.line && a.column == b.column
+}
