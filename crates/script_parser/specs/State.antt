@@ -74,3 +74,8 @@ abbrev pub Moves : Parser → Parser → Result (Option ℕ) NoMemory → Outcom
 Moves old new (Ok (Some n)) o = (o ≡ Next (stack new) (state new) n) × (new.symbols ≡ old.symbols)
 Moves old new (Ok None) o = (o ≡ Fail) × (state new ≡ state old) × (new.symbols ≡ old.symbols)
 Moves old new (Err e) o = Unit {0}
+
+-- A token that is taken in any case.
+abbrev pub some_of : Result ℕ NoMemory → Result (Option ℕ) NoMemory
+some_of (Ok n) = Ok (Some n)
+some_of (Err e) = Err e

@@ -2,6 +2,13 @@
 
 use script_grammar::{Node, Symbol};
 
+mod expressions;
+mod functions;
+mod operators;
+mod signs;
+mod stages;
+mod statements;
+mod tails;
 mod trees;
 
 /// The stacks, with the top at the end. Values are numbers of nodes. What the last token put on the stack of symbols is pending, so that a token
