@@ -1,2 +1,4 @@
-pub mod State
+pub mod Contract
+pub mod Progress
 pub mod Settling
+pub mod State

@@ -2,6 +2,9 @@
 #![tactic(auto)]
 
 mod kinds;
+mod leaves;
 mod parser;
+mod script;
 
 pub use kinds::kind_of;
+pub use script::parse;
