@@ -15,13 +15,14 @@ use Rattle.script_grammar.specs.Scripts.{Stands}
 use Rattle.script_grammar.specs.Completed.{Unexpected, Script, Reads, semicolon}
 use Rattle.script_grammar.specs.Completed.{Reads as r}
 use Rattle.script_grammar.proofs.Reached.{ends, ended}
+use Rattle.script_grammar.proofs.Shorter.{shorter}
 use Rattle.script_parser.specs.declared.parser.Parser.{Parser}
 use Rattle.script_parser.specs.Settling as settling
 use Rattle.script_parser.specs.State.{State, numbers, stack, state, ids}
 use Rattle.script_parser.specs.Progress.{Stood, AllStand, Standing, Settled, Firm, Shifted, Tried, AroundEnd, root_of}
 use Rattle.script_parser.proofs.Alike.{loose_like, drops_like}
 use Rattle.script_parser.proofs.Arena.{acts_stand, targets_stand, plains_stand}
-use Rattle.script_parser.proofs.Settle.{shorter, no_tail, no_keep}
+use Rattle.script_parser.proofs.Settle.{no_tail, no_keep}
 use Rattle.script_parser.proofs.Steps.{taken_on, not_viable, tried}
 
 abbrev settled_ids : List Symbol → State → Sign → List Symbol × State

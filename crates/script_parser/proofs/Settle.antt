@@ -1,4 +1,4 @@
--- What is left alone at a token changes no step, and a semicolon that is put in shortens the stack.
+-- What is left alone at a token changes no step.
 use Rattle.std.proofs.Common.{suc, ◌≡◌, ◌<◌, ℕ, Bool, true, false, not, ◌&&◌, cond, List, [], ◌∷◌, length, refl, ap, sym, ◌∙◌, arith}
 use Rattle.script_grammar.specs.declared.kinds.NameRole.TheVariants as role
 use Rattle.script_grammar.specs.declared.kinds.Level.TheVariants as v
@@ -107,61 +107,3 @@ module _ (S : Type 0) (alg : Algebra S) where
           → step (cond b (settled γ (drops z s) x) (z ∷ γ, s)).0 (cond b (settled γ (drops z s) x) (z ∷ γ, s)).1 put ≡ step (z ∷ γ) s put
       go ih true h = ih ∙ sym (loose_step z γ s put (loose_put z s x h))
       go ih false h = refl
-
-  more : (γ γ' : List Symbol) → length γ' < length γ → length γ' < suc (length γ)
-  more γ γ' h = omega arith
-
-  abbrev made : List Symbol → S → ℕ → Outcome S
-  made γ s n = Next γ s n
-
-  next : (γ γ' : List Symbol) (s s' : S) (d n : ℕ) → made γ s d ≡ Next γ' s' n → length γ' < suc (length γ)
-  next γ γ' s s' d n h = let same : γ ≡ γ' = cc in omega (arith, ap length same)
-
-  part_shorter : (n : Expected) (d : ℕ) (γ γ' : List Symbol) (s s' : S) (j : ℕ) → m.at_part S alg n d γ s put ≡ Next γ' s' j → length γ' < suc (length γ)
-  part_shorter (e.Maybe n (z.Semicolon false)) d γ γ' s s' j h = next γ γ' (m.none S alg s) s' d j h
-  part_shorter (e.Maybe n (z.Semicolon true)) d γ γ' s s' j h = absurd (cc (h))
-  part_shorter (e.Maybe n z.Open) d γ γ' s s' j h = absurd (cc (h))
-  part_shorter (e.Maybe n z.Close) d γ γ' s s' j h = absurd (cc (h))
-  part_shorter (e.Maybe n z.BraceClose) d γ γ' s s' j h = absurd (cc (h))
-  part_shorter (e.Maybe n z.SquareClose) d γ γ' s s' j h = absurd (cc (h))
-  part_shorter (e.Maybe n z.Colon) d γ γ' s s' j h = absurd (cc (h))
-  part_shorter _ d γ γ' s s' j h = absurd (cc (h))
-
-  stage_shorter : (n : Stage) (d : ℕ) (γ γ' : List Symbol) (s s' : S) (j : ℕ) → m.at_stage S alg n d γ s put ≡ Next γ' s' j → length γ' < suc (length γ)
-  stage_shorter (g.AfterReturn i) d γ γ' s s' j h = next γ γ' _ s' d j h
-  stage_shorter (g.MoreBindings c false i) d γ γ' s s' j h = next γ γ' _ s' d j h
-  stage_shorter (g.MoreBindings c true i) d γ γ' s s' j h = absurd (cc (h))
-  stage_shorter (g.Listed l.Arguments) d γ γ' s s' j h = absurd (cc (h))
-  stage_shorter (g.Listed l.Parameters) d γ γ' s s' j h = absurd (cc (h))
-  stage_shorter (g.Listed l.Properties) d γ γ' s s' j h = absurd (cc (h))
-  stage_shorter (g.Rest l.Arguments) d γ γ' s s' j h = absurd (cc (h))
-  stage_shorter (g.Rest l.Parameters) d γ γ' s s' j h = absurd (cc (h))
-  stage_shorter (g.Rest l.Properties) d γ γ' s s' j h = absurd (cc (h))
-  stage_shorter _ d γ γ' s s' j h = absurd (cc (h))
-
-  take_shorter : (n : Terminal) (d : ℕ) (γ γ' : List Symbol) (s s' : S) (j : ℕ) → step (y.Take n d ∷ γ) s put ≡ Next γ' s' j → length γ' < suc (length γ)
-  take_shorter (z.Semicolon false) d γ γ' s s' j h = next γ γ' s s' d j h
-  take_shorter (z.Semicolon true) d γ γ' s s' j h = absurd (cc (h))
-  take_shorter _ d γ γ' s s' j h = absurd (cc (h))
-
-  no_fail : (γ' : List Symbol) (s' : S) (j : ℕ) (A : Type 0) → Fail ≡ made γ' s' j → A
-  no_fail γ' s' j A h = absurd (cc (h))
-
-  loose_case : (b : Bool) (other : Outcome S) (γ γ' : List Symbol) (s' : S) (j : ℕ) → (other ≡ Next γ' s' j → length γ' < length γ) → cond b other Fail ≡ Next γ' s' j → length γ' < suc (length γ)
-  loose_case true other γ γ' s' j f h = more γ γ' (f h)
-  loose_case false other γ γ' s' j f h = no_fail γ' s' j (length γ' < suc (length γ)) h
-
-  cond_off : {X : Type 0} (b : Bool) (x other : X) → b ≡ false → cond b x other ≡ other
-  cond_off true x other h = absurd (cc (h))
-  cond_off false x other h = refl
-
-  pub shorter : (γ γ' : List Symbol) (s s' : S) (n : ℕ) → step γ s put ≡ Next γ' s' n → length γ' < length γ
-  shorter [] γ' s s' n h = no_fail γ' s' n _ h
-  shorter (y.Part k d ∷ γ) γ' s s' n h = part_shorter k d γ γ' s s' n h
-  shorter (y.Stage k d ∷ γ) γ' s s' n h = stage_shorter k d γ γ' s s' n h
-  shorter (y.Take k d ∷ γ) γ' s s' n h = take_shorter k d γ γ' s s' n h
-  shorter (y.Tail k d ∷ γ) γ' s s' n h = more γ γ' (shorter γ γ' s s' n (sym (cond_off (takes k put) (m.continue S alg k d γ s put) (step γ s put) (no_tail k)) ∙ h))
-  shorter (y.Loose k d ∷ γ) γ' s s' n h =
-      loose_case (m.may_leave S alg k s) (step γ (m.leave S alg k s) put) γ γ' s' n (shorter γ γ' (m.leave S alg k s) s' n)
-      (sym (cond_off (keeps k put) (m.go_on S alg k d γ s put) (cond (m.may_leave S alg k s) (step γ (m.leave S alg k s) put) Fail) (no_keep k)) ∙ h)
-  shorter (y.Do f ∷ γ) γ' s s' n h = more γ γ' (shorter γ γ' (alg.act f s) s' n h)

@@ -16,13 +16,14 @@ use Rattle.script_grammar.specs.Trees as tree
 use Rattle.script_grammar.specs.Completed.{Unexpected, TooDeep, Reads, Follows, TakesSemicolon, offends, semicolon, given}
 use Rattle.script_grammar.specs.Completed.{Reads as r}
 use Rattle.script_grammar.proofs.Reached.{reached_next, taken_next, refused}
+use Rattle.script_grammar.proofs.Shorter.{shorter}
 use Rattle.script_parser.specs.declared.parser.Parser.{Parser}
 use Rattle.script_parser.specs.Settling.{settled}
 use Rattle.script_parser.specs.State.{State, numbers, stack, state}
 use Rattle.script_parser.specs.Progress.{step, Stood, Standing, Settled, Shifted, Tried, Onward, Around}
 use Rattle.script_parser.proofs.Alike.{Like, step_like}
 use Rattle.script_parser.proofs.Arena.{acts_stand, targets_stand, plains_stand}
-use Rattle.script_parser.proofs.Settle.{settled_step, settled_put, shorter}
+use Rattle.script_parser.proofs.Settle.{settled_step, settled_put}
 
 numbers_like : (γ : List Symbol) (s : State) (vs : List Tree) (x : Sign) → Stood s vs → Like Stood (m.step State numbers γ s x) (tree.step γ vs x)
 numbers_like γ s vs x h = step_like State (List Tree) numbers trees Stood acts_stand targets_stand plains_stand γ s vs x h

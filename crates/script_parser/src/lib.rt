@@ -6,5 +6,7 @@ mod leaves;
 mod parser;
 mod script;
 
-pub use kinds::kind_of;
 pub use script::parse;
+
+#[cfg(test)]
+mod tests;

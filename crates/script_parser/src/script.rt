@@ -47,7 +47,10 @@ pub fn parse(alloc: Global, tokens: &Tokens) -> Result<Script, ReadStop>
             Reading::Refused => {
                 return Err(ReadStop::Fault(fault_at(FaultCode::Unexpected, tokens.at(i))));
             }
-            Reading::Deep => return Err(ReadStop::Fault(fault_at(FaultCode::TooDeep, tokens.at(i)))),
+            Reading::Deep => return Err(ReadStop::Fault(fault_at(
+                FaultCode::TooDeep,
+                tokens.at(i),
+            ))),
         }
     }
     match parser.end()? {

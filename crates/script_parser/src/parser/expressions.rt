@@ -31,7 +31,11 @@ fn level_tail(level: Level, plain: bool, depth: u32) -> Symbol
 
 impl Parser {
     /// Expects a part, in one production more.
-    pub(super) fn part_deeper(&mut self, depth: u32, part: Expected) -> Result<Option<u32>, NoMemory>
+    pub(super) fn part_deeper(
+        &mut self,
+        depth: u32,
+        part: Expected,
+    ) -> Result<Option<u32>, NoMemory>
         ensures { Moves self.old self.new result (m.Next (Symbol.Part part (suc depth) ∷ stack self.old) (state self.old) (suc depth)) }
     {
         let inner = deeper(depth)?;
@@ -92,8 +96,20 @@ impl Parser {
         match word {
             Word::This => self.atom(depth, Atom::This(number)),
             Word::Null => self.atom(depth, Atom::Null(number)),
-            Word::True => self.atom(depth, Atom::Bool { value: true, word: number }),
-            Word::False => self.atom(depth, Atom::Bool { value: false, word: number }),
+            Word::True => self.atom(
+                depth,
+                Atom::Bool {
+                    value: true,
+                    word: number,
+                },
+            ),
+            Word::False => self.atom(
+                depth,
+                Atom::Bool {
+                    value: false,
+                    word: number,
+                },
+            ),
             Word::Function => self.stage_deeper(depth, Stage::AfterFunction(number)),
             Word::New => self.part_deeper(depth, Expected::Callee(number)),
             _ => Ok(None),
@@ -163,14 +179,25 @@ impl Parser {
         }
     }
 
-    pub(super) fn operand(&mut self, level: Level, plain: bool, depth: u32, x: Sign) -> Result<Option<u32>, NoMemory>
+    pub(super) fn operand(
+        &mut self,
+        level: Level,
+        plain: bool,
+        depth: u32,
+        x: Sign,
+    ) -> Result<Option<u32>, NoMemory>
         ensures { Moves self.old self.new result (m.at_operand State numbers level plain depth (stack self.old) (state self.old) x) }
     {
         self.expect_below(level, plain, depth)?;
         self.unary(depth, x)
     }
 
-    pub(super) fn assign(&mut self, plain: bool, depth: u32, x: Sign) -> Result<Option<u32>, NoMemory>
+    pub(super) fn assign(
+        &mut self,
+        plain: bool,
+        depth: u32,
+        x: Sign,
+    ) -> Result<Option<u32>, NoMemory>
         ensures { Moves self.old self.new result (m.at_assign State numbers plain depth (stack self.old) (state self.old) x) }
     {
         let inner = deeper(depth)?;
@@ -183,7 +210,12 @@ impl Parser {
         self.operand(Level::Or, plain, inner, x)
     }
 
-    pub(super) fn expression(&mut self, plain: bool, depth: u32, x: Sign) -> Result<Option<u32>, NoMemory>
+    pub(super) fn expression(
+        &mut self,
+        plain: bool,
+        depth: u32,
+        x: Sign,
+    ) -> Result<Option<u32>, NoMemory>
         ensures { Moves self.old self.new result (m.at_expr State numbers plain depth (stack self.old) (state self.old) x) }
     {
         self.expect(&[Symbol::Tail(Tail::Expression(plain), depth)])?;

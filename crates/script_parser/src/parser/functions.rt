@@ -17,7 +17,11 @@ impl Parser {
     pub(super) fn parameters(&mut self, depth: u32, x: Sign) -> Result<Option<u32>, NoMemory>
         ensures { Moves self.old self.new result (m.at_params State numbers depth (stack self.old) (state self.old) x) }
     {
-        let Sign::Token { kind: Kind::Bracket(Bracket::Open), .. } = x else {
+        let Sign::Token {
+            kind: Kind::Bracket(Bracket::Open),
+            ..
+        } = x
+        else {
             return Ok(None);
         };
         self.begin_list(&[Symbol::Stage(Stage::Listed(Listing::Parameters), depth)])?;
@@ -28,7 +32,11 @@ impl Parser {
         ensures { Moves self.old self.new result (m.at_param State numbers depth (stack self.old) (state self.old) x) }
     {
         match x {
-            Sign::Token { kind: Kind::Name(_), number, .. } => self.atom(depth, Atom::Binding(number)),
+            Sign::Token {
+                kind: Kind::Name(_),
+                number,
+                ..
+            } => self.atom(depth, Atom::Binding(number)),
             _ => Ok(None),
         }
     }
@@ -36,7 +44,11 @@ impl Parser {
     pub(super) fn body(&mut self, depth: u32, x: Sign) -> Result<Option<u32>, NoMemory>
         ensures { Moves self.old self.new result (m.at_body State numbers depth (stack self.old) (state self.old) x) }
     {
-        let Sign::Token { kind: Kind::Bracket(Bracket::BraceOpen), .. } = x else {
+        let Sign::Token {
+            kind: Kind::Bracket(Bracket::BraceOpen),
+            ..
+        } = x
+        else {
             return Ok(None);
         };
         self.begin_list(&[
@@ -59,12 +71,24 @@ impl Parser {
     }
 
     /// The name of a declared function.
-    pub(super) fn function_name(&mut self, first: u32, depth: u32, x: Sign) -> Result<Option<u32>, NoMemory>
+    pub(super) fn function_name(
+        &mut self,
+        first: u32,
+        depth: u32,
+        x: Sign,
+    ) -> Result<Option<u32>, NoMemory>
         ensures { Moves self.old self.new result (m.function_name State numbers first depth (stack self.old) (state self.old) x) }
     {
         match x {
-            Sign::Token { kind: Kind::Name(_), number, .. } => self.expect_function(
-                Pair::DeclaredFunction { first, name: number },
+            Sign::Token {
+                kind: Kind::Name(_),
+                number,
+                ..
+            } => self.expect_function(
+                Pair::DeclaredFunction {
+                    first,
+                    name: number,
+                },
                 depth,
             ),
             _ => Ok(None),
@@ -72,12 +96,24 @@ impl Parser {
     }
 
     /// Behind the `function` of an expression: its name or its parameters.
-    pub(super) fn after_function(&mut self, first: u32, depth: u32, x: Sign) -> Result<Option<u32>, NoMemory>
+    pub(super) fn after_function(
+        &mut self,
+        first: u32,
+        depth: u32,
+        x: Sign,
+    ) -> Result<Option<u32>, NoMemory>
         ensures { Moves self.old self.new result (m.after_function State numbers first depth (stack self.old) (state self.old) x) }
     {
         match x {
-            Sign::Token { kind: Kind::Name(_), number, .. } => self.expect_function(
-                Pair::NamedFunction { first, name: number },
+            Sign::Token {
+                kind: Kind::Name(_),
+                number,
+                ..
+            } => self.expect_function(
+                Pair::NamedFunction {
+                    first,
+                    name: number,
+                },
                 depth,
             ),
             _ => {
@@ -117,7 +153,11 @@ impl Parser {
         ensures { Moves self.old self.new result (m.at_prop State numbers depth (stack self.old) (state self.old) x) }
     {
         match x {
-            Sign::Token { kind: Kind::Name(role), number, .. } => {
+            Sign::Token {
+                kind: Kind::Name(role),
+                number,
+                ..
+            } => {
                 self.expect(&[Symbol::Loose(Loose::Property { role, name: number }, depth)])?;
                 Ok(Some(depth))
             }
@@ -157,14 +197,26 @@ impl Parser {
         ensures { Moves self.old self.new result (m.after_key State numbers depth (stack self.old) (state self.old) x) }
     {
         match x {
-            Sign::Token { kind: Kind::Mark(Mark::Colon), .. } => Ok(Some(self.property_value(depth)?)),
-            Sign::Token { kind: Kind::Bracket(Bracket::Open), .. } => Ok(Some(self.method(depth)?)),
+            Sign::Token {
+                kind: Kind::Mark(Mark::Colon),
+                ..
+            } => Ok(Some(self.property_value(depth)?)),
+            Sign::Token {
+                kind: Kind::Bracket(Bracket::Open),
+                ..
+            } => Ok(Some(self.method(depth)?)),
             _ => Ok(None),
         }
     }
 
     /// Behind the `get` or `set` of an accessor: the name of the property.
-    fn accessor(&mut self, role: NameRole, first: u32, depth: u32, x: Sign) -> Result<Option<u32>, NoMemory>
+    fn accessor(
+        &mut self,
+        role: NameRole,
+        first: u32,
+        depth: u32,
+        x: Sign,
+    ) -> Result<Option<u32>, NoMemory>
         ensures { Moves self.old self.new result (m.at_accessor State numbers role first depth (stack self.old) (state self.old) x) }
     {
         match role {
@@ -191,15 +243,27 @@ impl Parser {
     }
 
     /// Behind a name that begins a property definition.
-    pub(super) fn after_property(&mut self, role: NameRole, name: u32, depth: u32, x: Sign) -> Result<Option<u32>, NoMemory>
+    pub(super) fn after_property(
+        &mut self,
+        role: NameRole,
+        name: u32,
+        depth: u32,
+        x: Sign,
+    ) -> Result<Option<u32>, NoMemory>
         ensures { Moves self.old self.new result (m.after_prop State numbers role name depth (stack self.old) (state self.old) x) }
     {
         match x {
-            Sign::Token { kind: Kind::Mark(Mark::Colon), .. } => {
+            Sign::Token {
+                kind: Kind::Mark(Mark::Colon),
+                ..
+            } => {
                 self.act(Act::Atom(Atom::Key(name)))?;
                 Ok(Some(self.property_value(depth)?))
             }
-            Sign::Token { kind: Kind::Bracket(Bracket::Open), .. } => {
+            Sign::Token {
+                kind: Kind::Bracket(Bracket::Open),
+                ..
+            } => {
                 self.act(Act::Atom(Atom::Key(name)))?;
                 Ok(Some(self.method(depth)?))
             }
@@ -208,14 +272,27 @@ impl Parser {
     }
 
     /// The parameter of a setter.
-    pub(super) fn setter_name(&mut self, first: u32, depth: u32, x: Sign) -> Result<Option<u32>, NoMemory>
+    pub(super) fn setter_name(
+        &mut self,
+        first: u32,
+        depth: u32,
+        x: Sign,
+    ) -> Result<Option<u32>, NoMemory>
         ensures { Moves self.old self.new result (m.setter_name State numbers first depth (stack self.old) (state self.old) x) }
     {
-        let Sign::Token { kind: Kind::Name(_), number, .. } = x else {
+        let Sign::Token {
+            kind: Kind::Name(_),
+            number,
+            ..
+        } = x
+        else {
             return Ok(None);
         };
         self.expect(&[
-            Symbol::Do(Act::Pair(Pair::Setter { first, parameter: number })),
+            Symbol::Do(Act::Pair(Pair::Setter {
+                first,
+                parameter: number,
+            })),
             Symbol::Part(Expected::Body, depth),
             Symbol::Take(Terminal::Close, depth),
         ])?;
@@ -223,15 +300,26 @@ impl Parser {
     }
 
     /// Behind the block of a `try`.
-    pub(super) fn after_try(&mut self, first: u32, depth: u32, x: Sign) -> Result<Option<u32>, NoMemory>
+    pub(super) fn after_try(
+        &mut self,
+        first: u32,
+        depth: u32,
+        x: Sign,
+    ) -> Result<Option<u32>, NoMemory>
         ensures { Moves self.old self.new result (m.after_try State numbers first depth (stack self.old) (state self.old) x) }
     {
         match x {
-            Sign::Token { kind: Kind::Word(Word::Catch), .. } => self.expect(&[
+            Sign::Token {
+                kind: Kind::Word(Word::Catch),
+                ..
+            } => self.expect(&[
                 Symbol::Loose(Loose::Finally(first), depth),
                 Symbol::Stage(Stage::AfterCatch, depth),
             ])?,
-            Sign::Token { kind: Kind::Word(Word::Finally), .. } => self.begin_list(&[
+            Sign::Token {
+                kind: Kind::Word(Word::Finally),
+                ..
+            } => self.begin_list(&[
                 Symbol::Do(Act::Triple(Triple::Try(first))),
                 Symbol::Part(Expected::Block, depth),
             ])?,
@@ -245,7 +333,10 @@ impl Parser {
         ensures { Moves self.old self.new result (m.after_catch State numbers depth (stack self.old) (state self.old) x) }
     {
         match x {
-            Sign::Token { kind: Kind::Bracket(Bracket::Open), .. } => {
+            Sign::Token {
+                kind: Kind::Bracket(Bracket::Open),
+                ..
+            } => {
                 self.expect(&[Symbol::Stage(Stage::CatchName, depth)])?;
                 Ok(Some(depth))
             }
@@ -260,7 +351,12 @@ impl Parser {
     pub(super) fn catch_name(&mut self, depth: u32, x: Sign) -> Result<Option<u32>, NoMemory>
         ensures { Moves self.old self.new result (m.catch_name State numbers depth (stack self.old) (state self.old) x) }
     {
-        let Sign::Token { kind: Kind::Name(_), number, .. } = x else {
+        let Sign::Token {
+            kind: Kind::Name(_),
+            number,
+            ..
+        } = x
+        else {
             return Ok(None);
         };
         self.expect(&[

@@ -15,7 +15,10 @@ pub(super) fn is_end(head: bool, x: Sign) -> bool
     ensures { result ≡ grammar.is_end head x }
 {
     match x {
-        Sign::Token { kind: Kind::Mark(Mark::Semicolon), .. } => true,
+        Sign::Token {
+            kind: Kind::Mark(Mark::Semicolon),
+            ..
+        } => true,
         Sign::Token { .. } => false,
         Sign::Inserted => !head,
     }
@@ -38,7 +41,12 @@ fn level_rank(level: Level) -> u32
 pub(super) fn reach(x: Sign) -> u32
     ensures { result ≡ m.reach x }
 {
-    let Sign::Token { kind, after_break, .. } = x else {
+    let Sign::Token {
+        kind,
+        after_break,
+        ..
+    } = x
+    else {
         return 13;
     };
     match kind {
@@ -99,11 +107,41 @@ pub(super) fn fits(terminal: Terminal, x: Sign) -> bool
     ensures { result ≡ m.fits terminal x }
 {
     match (terminal, x) {
-        (Terminal::Open, Sign::Token { kind: Kind::Bracket(Bracket::Open), .. })
-        | (Terminal::Close, Sign::Token { kind: Kind::Bracket(Bracket::Close), .. })
-        | (Terminal::BraceClose, Sign::Token { kind: Kind::Bracket(Bracket::BraceClose), .. })
-        | (Terminal::SquareClose, Sign::Token { kind: Kind::Bracket(Bracket::SquareClose), .. })
-        | (Terminal::Colon, Sign::Token { kind: Kind::Mark(Mark::Colon), .. }) => true,
+        (
+            Terminal::Open,
+            Sign::Token {
+                kind: Kind::Bracket(Bracket::Open),
+                ..
+            },
+        )
+        | (
+            Terminal::Close,
+            Sign::Token {
+                kind: Kind::Bracket(Bracket::Close),
+                ..
+            },
+        )
+        | (
+            Terminal::BraceClose,
+            Sign::Token {
+                kind: Kind::Bracket(Bracket::BraceClose),
+                ..
+            },
+        )
+        | (
+            Terminal::SquareClose,
+            Sign::Token {
+                kind: Kind::Bracket(Bracket::SquareClose),
+                ..
+            },
+        )
+        | (
+            Terminal::Colon,
+            Sign::Token {
+                kind: Kind::Mark(Mark::Colon),
+                ..
+            },
+        ) => true,
         (Terminal::Semicolon(head), _) => is_end(head, x),
         _ => false,
     }
@@ -122,25 +160,49 @@ pub(super) fn closing(listing: Listing) -> Terminal
 pub(super) fn is_comma(x: Sign) -> bool
     ensures { result ≡ m.is_comma x }
 {
-    matches!(x, Sign::Token { kind: Kind::Mark(Mark::Comma), .. })
+    matches!(
+        x,
+        Sign::Token {
+            kind: Kind::Mark(Mark::Comma),
+            ..
+        }
+    )
 }
 
 fn is_else(x: Sign) -> bool
     ensures { result ≡ m.is_word_sign Word.Else x }
 {
-    matches!(x, Sign::Token { kind: Kind::Word(Word::Else), .. })
+    matches!(
+        x,
+        Sign::Token {
+            kind: Kind::Word(Word::Else),
+            ..
+        }
+    )
 }
 
 fn is_finally(x: Sign) -> bool
     ensures { result ≡ m.is_word_sign Word.Finally x }
 {
-    matches!(x, Sign::Token { kind: Kind::Word(Word::Finally), .. })
+    matches!(
+        x,
+        Sign::Token {
+            kind: Kind::Word(Word::Finally),
+            ..
+        }
+    )
 }
 
 fn is_equals(x: Sign) -> bool
     ensures { result ≡ m.is_equals x }
 {
-    matches!(x, Sign::Token { kind: Kind::Assign(AssignOperator::Plain), .. })
+    matches!(
+        x,
+        Sign::Token {
+            kind: Kind::Assign(AssignOperator::Plain),
+            ..
+        }
+    )
 }
 
 /// Whether no line break stands before the token.
@@ -186,7 +248,10 @@ pub(super) fn ends_key(x: Sign) -> bool
 {
     matches!(
         x,
-        Sign::Token { kind: Kind::Mark(Mark::Colon) | Kind::Bracket(Bracket::Open), .. }
+        Sign::Token {
+            kind: Kind::Mark(Mark::Colon) | Kind::Bracket(Bracket::Open),
+            ..
+        }
     )
 }
 
@@ -194,7 +259,10 @@ fn is_key_sign(x: Sign) -> bool
     ensures { result ≡ m.is_key_sign x }
 {
     match x {
-        Sign::Token { kind: Kind::Bracket(Bracket::SquareOpen), .. } => true,
+        Sign::Token {
+            kind: Kind::Bracket(Bracket::SquareOpen),
+            ..
+        } => true,
         Sign::Token { kind, .. } => is_key(kind),
         Sign::Inserted => false,
     }

@@ -14,7 +14,12 @@ use script_grammar::{
 
 impl Parser {
     /// The first token of a part that must come.
-    pub(super) fn part(&mut self, part: Expected, depth: u32, x: Sign) -> Result<Option<u32>, NoMemory>
+    pub(super) fn part(
+        &mut self,
+        part: Expected,
+        depth: u32,
+        x: Sign,
+    ) -> Result<Option<u32>, NoMemory>
         ensures { Moves self.old self.new result (m.at_part State numbers part depth (stack self.old) (state self.old) x) }
     {
         match part {
@@ -84,7 +89,13 @@ impl Parser {
     }
 
     /// Behind a member of a list that this bracket closes: its end or a comma, and a stage behind the comma.
-    fn rest(&mut self, end: Terminal, again: Stage, depth: u32, x: Sign) -> Result<Option<u32>, NoMemory>
+    fn rest(
+        &mut self,
+        end: Terminal,
+        again: Stage,
+        depth: u32,
+        x: Sign,
+    ) -> Result<Option<u32>, NoMemory>
         ensures { Moves self.old self.new result (cond (m.fits end x) (m.Next (stack self.old) (state self.old) depth) (cond (m.is_comma x) (m.Next (Symbol.Stage again depth ∷ stack self.old) (state self.old) depth) m.Fail)) }
     {
         if fits(end, x) {
@@ -138,7 +149,14 @@ impl Parser {
     }
 
     /// Behind a lexical name: the end of the declaration, or a comma.
-    fn more_bindings(&mut self, constant: bool, head: bool, first: u32, depth: u32, x: Sign) -> Result<Option<u32>, NoMemory>
+    fn more_bindings(
+        &mut self,
+        constant: bool,
+        head: bool,
+        first: u32,
+        depth: u32,
+        x: Sign,
+    ) -> Result<Option<u32>, NoMemory>
         ensures { Moves self.old self.new result (m.at_stage State numbers (Stage.MoreBindings constant head first) depth (stack self.old) (state self.old) x) }
     {
         if is_end(head, x) {
@@ -164,7 +182,12 @@ impl Parser {
     }
 
     /// A token inside a production.
-    pub(super) fn stage(&mut self, stage: Stage, depth: u32, x: Sign) -> Result<Option<u32>, NoMemory>
+    pub(super) fn stage(
+        &mut self,
+        stage: Stage,
+        depth: u32,
+        x: Sign,
+    ) -> Result<Option<u32>, NoMemory>
         ensures { Moves self.old self.new result (m.at_stage State numbers stage depth (stack self.old) (state self.old) x) }
     {
         match stage {
@@ -177,9 +200,11 @@ impl Parser {
             Stage::AfterTry(first) => self.after_try(first, depth, x),
             Stage::AfterCatch => self.after_catch(depth, x),
             Stage::CatchName => self.catch_name(depth, x),
-            Stage::MoreBindings { constant, head, first } => self.more_bindings(
-                constant, head, first, depth, x,
-            ),
+            Stage::MoreBindings {
+                constant,
+                head,
+                first,
+            } => self.more_bindings(constant, head, first, depth, x),
             Stage::FunctionName(first) => self.function_name(first, depth, x),
             Stage::AfterFunction(first) => self.after_function(first, depth, x),
             Stage::AfterKey => self.after_key(depth, x),

@@ -17,7 +17,12 @@ impl Parser {
     pub(super) fn block(&mut self, depth: u32, x: Sign) -> Result<Option<u32>, NoMemory>
         ensures { Moves self.old self.new result (m.at_block State numbers depth (stack self.old) (state self.old) x) }
     {
-        let Sign::Token { kind: Kind::Bracket(Bracket::BraceOpen), number, .. } = x else {
+        let Sign::Token {
+            kind: Kind::Bracket(Bracket::BraceOpen),
+            number,
+            ..
+        } = x
+        else {
             return Ok(None);
         };
         self.begin_list(&[
@@ -94,7 +99,12 @@ impl Parser {
     }
 
     /// An expression, and work to be done behind it and its `;`.
-    pub(super) fn ended_expression(&mut self, label: Wrap, depth: u32, x: Sign) -> Result<Option<u32>, NoMemory>
+    pub(super) fn ended_expression(
+        &mut self,
+        label: Wrap,
+        depth: u32,
+        x: Sign,
+    ) -> Result<Option<u32>, NoMemory>
         ensures { Moves self.old self.new result (m.at_expr State numbers false depth (Symbol.Take (Terminal.Semicolon false) depth ∷ Symbol.Do (Act.Wrap label) ∷ stack self.old) (state self.old) x) }
     {
         self.expect(&[
@@ -127,10 +137,21 @@ impl Parser {
     }
 
     /// A name that is declared by `let` or `const`.
-    pub(super) fn binding(&mut self, constant: bool, head: bool, depth: u32, x: Sign) -> Result<Option<u32>, NoMemory>
+    pub(super) fn binding(
+        &mut self,
+        constant: bool,
+        head: bool,
+        depth: u32,
+        x: Sign,
+    ) -> Result<Option<u32>, NoMemory>
         ensures { Moves self.old self.new result (m.at_bind State numbers constant head depth (stack self.old) (state self.old) x) }
     {
-        let Sign::Token { kind: Kind::Name(_), number, .. } = x else {
+        let Sign::Token {
+            kind: Kind::Name(_),
+            number,
+            ..
+        } = x
+        else {
             return Ok(None);
         };
         self.expect(&[Symbol::Loose(
@@ -145,7 +166,13 @@ impl Parser {
     }
 
     /// What comes behind `let` or `const`.
-    fn declaration(&mut self, constant: bool, head: bool, first: u32, depth: u32) -> Result<Option<u32>, NoMemory>
+    fn declaration(
+        &mut self,
+        constant: bool,
+        head: bool,
+        first: u32,
+        depth: u32,
+    ) -> Result<Option<u32>, NoMemory>
         ensures { Moves self.old self.new result (m.declares State numbers constant head first depth (stack self.old) (state self.old)) }
     {
         self.begin_list(&[
@@ -164,26 +191,42 @@ impl Parser {
     }
 
     /// An item of a body or, else, of a block.
-    pub(super) fn item(&mut self, of_body: bool, depth: u32, x: Sign) -> Result<Option<u32>, NoMemory>
+    pub(super) fn item(
+        &mut self,
+        of_body: bool,
+        depth: u32,
+        x: Sign,
+    ) -> Result<Option<u32>, NoMemory>
         ensures { Moves self.old self.new result (m.at_item State numbers of_body depth (stack self.old) (state self.old) x) }
     {
         match x {
-            Sign::Token { kind: Kind::Word(Word::Function), number, .. } if of_body => self.stage_deeper(
-                depth,
-                Stage::FunctionName(number),
-            ),
-            Sign::Token { kind: Kind::Word(Word::Let), number, .. } => self.declaration(
-                false, false, number, depth,
-            ),
-            Sign::Token { kind: Kind::Word(Word::Const), number, .. } => self.declaration(
-                true, false, number, depth,
-            ),
+            Sign::Token {
+                kind: Kind::Word(Word::Function),
+                number,
+                ..
+            } if of_body => self.stage_deeper(depth, Stage::FunctionName(number)),
+            Sign::Token {
+                kind: Kind::Word(Word::Let),
+                number,
+                ..
+            } => self.declaration(false, false, number, depth),
+            Sign::Token {
+                kind: Kind::Word(Word::Const),
+                number,
+                ..
+            } => self.declaration(true, false, number, depth),
             _ => self.statement(depth, x),
         }
     }
 
     /// An expression that may be left out, and a token behind it.
-    pub(super) fn maybe(&mut self, plain: bool, end: Terminal, depth: u32, x: Sign) -> Result<Option<u32>, NoMemory>
+    pub(super) fn maybe(
+        &mut self,
+        plain: bool,
+        end: Terminal,
+        depth: u32,
+        x: Sign,
+    ) -> Result<Option<u32>, NoMemory>
         ensures { Moves self.old self.new result (m.at_maybe State numbers plain end depth (stack self.old) (state self.old) x) }
     {
         if fits(end, x) {
@@ -198,12 +241,16 @@ impl Parser {
         ensures { Moves self.old self.new result (m.at_first State numbers depth (stack self.old) (state self.old) x) }
     {
         match x {
-            Sign::Token { kind: Kind::Word(Word::Let), number, .. } => self.declaration(
-                false, true, number, depth,
-            ),
-            Sign::Token { kind: Kind::Word(Word::Const), number, .. } => self.declaration(
-                true, true, number, depth,
-            ),
+            Sign::Token {
+                kind: Kind::Word(Word::Let),
+                number,
+                ..
+            } => self.declaration(false, true, number, depth),
+            Sign::Token {
+                kind: Kind::Word(Word::Const),
+                number,
+                ..
+            } => self.declaration(true, true, number, depth),
             _ => self.maybe(true, Terminal::Semicolon(true), depth, x),
         }
     }

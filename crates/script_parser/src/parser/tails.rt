@@ -22,7 +22,10 @@ impl Parser {
             return Ok(None);
         };
         match kind {
-            Kind::Mark(Mark::Dot) => self.expect(&[again, Symbol::Stage(Stage::Word(number), depth)])?,
+            Kind::Mark(Mark::Dot) => self.expect(&[
+                again,
+                Symbol::Stage(Stage::Word(number), depth),
+            ])?,
             Kind::Bracket(Bracket::SquareOpen) => self.expect(&[
                 again,
                 Symbol::Do(Act::Pair(Pair::Index(number))),
@@ -71,7 +74,11 @@ impl Parser {
         ensures { Moves self.old self.new result (m.after_update State numbers depth (stack self.old) (state self.old) x) }
     {
         match x {
-            Sign::Token { kind: Kind::Update(increment), number, after_break: false } if self.has_target() => {
+            Sign::Token {
+                kind: Kind::Update(increment),
+                number,
+                after_break: false,
+            } if self.has_target() => {
                 self.act(Act::Wrap(Wrap::Update {
                     increment,
                     prefix: false,
@@ -84,7 +91,13 @@ impl Parser {
     }
 
     /// An operator that groups from the left.
-    fn after_level(&mut self, level: Level, plain: bool, depth: u32, x: Sign) -> Result<Option<u32>, NoMemory>
+    fn after_level(
+        &mut self,
+        level: Level,
+        plain: bool,
+        depth: u32,
+        x: Sign,
+    ) -> Result<Option<u32>, NoMemory>
         ensures { Moves self.old self.new result (m.after_level State numbers level plain depth (stack self.old) (state self.old) x) }
     {
         let Sign::Token { kind, .. } = x else {
@@ -108,7 +121,10 @@ impl Parser {
         ensures { Moves self.old self.new result (m.after_short State numbers plain depth (stack self.old) (state self.old) x) }
     {
         match x {
-            Sign::Token { kind: Kind::Short(ShortOperator::Coalesce), .. } if self.has_plain() => {
+            Sign::Token {
+                kind: Kind::Short(ShortOperator::Coalesce),
+                ..
+            } if self.has_plain() => {
                 self.expect(&[
                     Symbol::Tail(Tail::Short(plain), depth),
                     Symbol::Do(Act::Pair(Pair::Short(ShortOperator::Coalesce))),
@@ -120,10 +136,19 @@ impl Parser {
         }
     }
 
-    fn after_conditional(&mut self, plain: bool, depth: u32, x: Sign) -> Result<Option<u32>, NoMemory>
+    fn after_conditional(
+        &mut self,
+        plain: bool,
+        depth: u32,
+        x: Sign,
+    ) -> Result<Option<u32>, NoMemory>
         ensures { Moves self.old self.new result (m.after_cond State numbers plain depth (stack self.old) (state self.old) x) }
     {
-        let Sign::Token { kind: Kind::Mark(Mark::Question), .. } = x else {
+        let Sign::Token {
+            kind: Kind::Mark(Mark::Question),
+            ..
+        } = x
+        else {
             return Ok(None);
         };
         self.expect(&[
@@ -139,7 +164,10 @@ impl Parser {
         ensures { Moves self.old self.new result (m.after_assign State numbers plain depth (stack self.old) (state self.old) x) }
     {
         match x {
-            Sign::Token { kind: Kind::Assign(operator), .. } if self.has_target() => {
+            Sign::Token {
+                kind: Kind::Assign(operator),
+                ..
+            } if self.has_target() => {
                 self.expect(&[
                     Symbol::Do(Act::Pair(Pair::Assign(operator))),
                     Symbol::Part(Expected::Assign(plain), depth),
@@ -150,10 +178,19 @@ impl Parser {
         }
     }
 
-    fn after_expression(&mut self, plain: bool, depth: u32, x: Sign) -> Result<Option<u32>, NoMemory>
+    fn after_expression(
+        &mut self,
+        plain: bool,
+        depth: u32,
+        x: Sign,
+    ) -> Result<Option<u32>, NoMemory>
         ensures { Moves self.old self.new result (m.after_expr State numbers plain depth (stack self.old) (state self.old) x) }
     {
-        let Sign::Token { kind: Kind::Mark(Mark::Comma), .. } = x else {
+        let Sign::Token {
+            kind: Kind::Mark(Mark::Comma),
+            ..
+        } = x
+        else {
             return Ok(None);
         };
         self.expect(&[
@@ -165,7 +202,12 @@ impl Parser {
     }
 
     /// A token that belongs to the tail of an expression.
-    pub(super) fn continue_with(&mut self, tail: Tail, depth: u32, x: Sign) -> Result<Option<u32>, NoMemory>
+    pub(super) fn continue_with(
+        &mut self,
+        tail: Tail,
+        depth: u32,
+        x: Sign,
+    ) -> Result<Option<u32>, NoMemory>
         ensures { Moves self.old self.new result (m.continue State numbers tail depth (stack self.old) (state self.old) x) }
     {
         match tail {
@@ -180,7 +222,12 @@ impl Parser {
     }
 
     /// A token that belongs to what may go on.
-    pub(super) fn go_on(&mut self, loose: Loose, depth: u32, x: Sign) -> Result<Option<u32>, NoMemory>
+    pub(super) fn go_on(
+        &mut self,
+        loose: Loose,
+        depth: u32,
+        x: Sign,
+    ) -> Result<Option<u32>, NoMemory>
         ensures { Moves self.old self.new result (m.go_on State numbers loose depth (stack self.old) (state self.old) x) }
     {
         match loose {

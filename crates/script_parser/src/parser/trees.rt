@@ -209,7 +209,8 @@ impl Parser {
         ensures { result ≡ is_plain_node (newest self.now.nodes.items (ids self.now)) }
     {
         match self.newest_node() {
-            Some(Node::Pair(Pair::Short(ShortOperator::And | ShortOperator::Or), _, _)) | None => false,
+            Some(Node::Pair(Pair::Short(ShortOperator::And | ShortOperator::Or), _, _)) | None =>
+                false,
             Some(_) => true,
         }
     }
