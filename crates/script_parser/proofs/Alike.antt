@@ -1,5 +1,5 @@
 -- Two algebras of values that agree make the machine agree.
-use Rattle.std.proofs.Common.{suc, ◌≡◌, ℕ, Bool, true, false, not, ◌&&◌, cond, List, [], ◌∷◌, Option, Some, None, refl, subst, ap, sym, ◌∙◌}
+use Rattle.std.proofs.Common.{suc, ◌≡◌, ℕ, Bool, true, false, not, ◌&&◌, cond, List, [], ◌∷◌, Option, Some, None, refl, subst, ap}
 use Rattle.es_model.specs.declared.expressions.ShortOperator.TheVariants as sh
 use Rattle.es_model.specs.declared.expressions.UnaryOperator.{UnaryOperator}
 use Rattle.script_grammar.specs.declared.kinds.NameRole.{NameRole}

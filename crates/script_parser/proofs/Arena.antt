@@ -1,5 +1,5 @@
 -- The nodes stand for trees.
-use Rattle.std.proofs.Common.{suc, zero, ◌≡◌, ◌<◌, ℕ, Bool, Option, Some, None, List, [], ◌∷◌, ◌++◌, length, refl, ap, sym, ◌∙◌, slice_get, arith, length-append}
+use Rattle.std.proofs.Common.{suc, zero, ◌≡◌, ◌<◌, ℕ, Some, List, [], ◌∷◌, ◌++◌, length, refl, ap, slice_get, arith}
 use Rattle.script_grammar.specs.declared.node.Node.{Node}
 use Rattle.script_grammar.specs.declared.node.Node.TheVariants as node
 use Rattle.script_grammar.specs.declared.act.Act.{Act}

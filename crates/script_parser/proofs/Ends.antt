@@ -3,8 +3,6 @@ use Rattle.std.proofs.Common.{◌≡◌, ◌<◌, ℕ, Bool, true, false, not, �
 use Rattle.script_grammar.specs.declared.node.Node.{Node}
 use Rattle.script_grammar.specs.declared.sign.Sign.{Sign}
 use Rattle.script_grammar.specs.declared.sign.Sign.TheVariants.{Inserted as put}
-use Rattle.script_grammar.specs.declared.symbol.Tail.{Tail}
-use Rattle.script_grammar.specs.declared.symbol.Loose.{Loose}
 use Rattle.script_grammar.specs.declared.symbol.Symbol.{Symbol}
 use Rattle.script_grammar.specs.declared.symbol.Symbol.TheVariants as y
 use Rattle.script_grammar.specs.Tree.{Tree}

@@ -1,20 +1,13 @@
 -- What is left alone at a token changes no step.
-use Rattle.std.proofs.Common.{suc, ◌≡◌, ◌<◌, ℕ, Bool, true, false, not, ◌&&◌, cond, List, [], ◌∷◌, length, refl, ap, sym, ◌∙◌, arith}
+use Rattle.std.proofs.Common.{◌≡◌, Bool, true, false, not, ◌&&◌, cond, List, [], ◌∷◌, refl, ap, sym, ◌∙◌}
 use Rattle.script_grammar.specs.declared.kinds.NameRole.TheVariants as role
 use Rattle.script_grammar.specs.declared.kinds.Level.TheVariants as v
 use Rattle.script_grammar.specs.declared.sign.Sign.{Sign}
 use Rattle.script_grammar.specs.declared.sign.Sign.TheVariants.{Inserted as put}
-use Rattle.script_grammar.specs.declared.symbol.Terminal.{Terminal}
-use Rattle.script_grammar.specs.declared.symbol.Terminal.TheVariants as z
-use Rattle.script_grammar.specs.declared.symbol.Listing.TheVariants as l
-use Rattle.script_grammar.specs.declared.symbol.Expected.{Expected}
-use Rattle.script_grammar.specs.declared.symbol.Expected.TheVariants as e
 use Rattle.script_grammar.specs.declared.symbol.Tail.{Tail}
 use Rattle.script_grammar.specs.declared.symbol.Tail.TheVariants as q
 use Rattle.script_grammar.specs.declared.symbol.Loose.{Loose}
 use Rattle.script_grammar.specs.declared.symbol.Loose.TheVariants as o
-use Rattle.script_grammar.specs.declared.symbol.Stage.{Stage}
-use Rattle.script_grammar.specs.declared.symbol.Stage.TheVariants as g
 use Rattle.script_grammar.specs.declared.symbol.Symbol.{Symbol}
 use Rattle.script_grammar.specs.declared.symbol.Symbol.TheVariants as y
 use Rattle.script_grammar.specs.Machine.{Outcome, Fail, Next, Algebra, takes, keeps}

@@ -1,5 +1,5 @@
 -- A text against code units from a place on, and a table from a row on.
-use Rattle.std.proofs.Common.{◌≡◌, ◌+◌, ◌<◌, ℕ, suc, zero, Bool, true, false, ◌&&◌, List, [], ◌∷◌, Option, Some, None, length, drop, map, slice_get, get_or, bytes_eq, nat_eq, refl, ap, arith, add-one, sym, ◌∙◌, cond, if◌then◌else◌}
+use Rattle.std.proofs.Common.{◌≡◌, ◌+◌, ◌<◌, ℕ, suc, zero, Bool, true, false, ◌&&◌, List, [], ◌∷◌, Some, length, drop, map, slice_get, get_or, bytes_eq, nat_eq, refl, ap, arith, add-one, sym, cond}
 use Rattle.std.proofs.lemmas.Bool.Decides.{nat_tests}
 use Rattle.script_grammar.specs.declared.kinds.Kind.{Kind}
 use Rattle.script_grammar.specs.Kinds.{kind_in}

@@ -1,10 +1,9 @@
 -- The whole of `parse`.
-use Rattle.std.proofs.Common.{suc, zero, ◌+◌, ◌≡◌, ◌<◌, ◌≤◌, ℕ, List, [], ◌∷◌, ◌++◌, length, drop, take, map, reverse, slice_get, refl, subst, ap, sym, ◌∙◌, Option, Some, None, Ok, Err, add-one, arith, length-append}
+use Rattle.std.proofs.Common.{suc, zero, ◌+◌, ◌≡◌, ◌≤◌, ℕ, List, [], ◌∷◌, ◌++◌, length, drop, take, map, reverse, slice_get, refl, subst, ap, sym, ◌∙◌, Option, Some, None, Ok, Err, add-one, arith, length-append}
 use Rattle.std.proofs.lemmas.List.{length-reverse}
 use Rattle.es_model.specs.declared.faults.FaultCode.TheVariants as fault_code
 use Rattle.es_model.specs.declared.faults.SourceFault.{SourceFault}
 use Rattle.es_model.specs.declared.token.Token.{Token}
-use Rattle.es_model.specs.Places.{Place}
 use Rattle.es_model.specs.Reading.{Reading as Source, fault_at}
 use Rattle.script_syntax.specs.declared.stop.ReadStop.TheVariants.{Fault}
 use Rattle.script_grammar.specs.declared.leaf.Leaf.{Leaf}
@@ -21,7 +20,7 @@ use Rattle.script_parser.specs.declared.parser.reading.Reading.{Reading}
 use Rattle.script_parser.specs.declared.parser.reading.Reading.TheVariants.{Taken, Refused, Deep}
 use Rattle.script_parser.specs.State.{State, stack, state, act_on}
 use Rattle.script_parser.specs.Progress.{Standing, Stood, ReadsOne, EndsWith, Behind, Onward, root_of}
-use Rattle.script_parser.specs.Contract.{IsScript, Gives, Parses}
+use Rattle.script_parser.specs.Contract.{Gives, Parses}
 use Rattle.script_grammar.specs.declared.act.Act.TheVariants as does
 use Rattle.script_grammar.specs.declared.labels.Atom.TheVariants as atom
 

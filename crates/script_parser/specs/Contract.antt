@@ -1,5 +1,5 @@
 -- What `parse` promises.
-use Rattle.std.specs.Prelude.{◌≡◌, List, [], map, Option, Some, Result, Ok, Err}
+use Rattle.std.specs.Prelude.{◌≡◌, [], map, Some, Result, Ok, Err}
 use Rattle.es_model.specs.Reading.{Reading}
 use Rattle.script_grammar.specs.Tree.{Tree}
 use Rattle.script_grammar.specs.Scripts.{Parts, Stands, leaf_of}

@@ -1,6 +1,5 @@
 -- What the fields of the parser stand for: the two stacks of the machine, where the values are numbers of nodes.
 use Rattle.std.specs.Prelude.{◌≡◌, ℕ, Bool, true, false, List, [], ◌∷◌, ◌++◌, Option, Some, None, Result, Ok, Err, length, reverse, slice_get, not}
-use Rattle.es_model.specs.declared.expressions.ShortOperator.TheVariants as s
 use Rattle.property_keys.specs.declared.faults.NoMemory.{NoMemory}
 use Rattle.script_grammar.specs.declared.act.Act.{Act}
 use Rattle.script_grammar.specs.declared.act.Act.TheVariants as u
@@ -65,11 +64,8 @@ ids p = reverse p.values.items
 abbrev pub state : Parser → State
 state p = (p.nodes.items, ids p)
 
--- What was expected before the token stays apart.
-abbrev pub Apart : Parser → Parser → Type 0
-Apart old new = new.symbols ≡ old.symbols
-
--- A token moves the parser as the machine's outcome says, unless memory runs out, and a token that is refused leaves what was there before.
+-- A token moves the parser as the machine's outcome says, unless memory runs out. What was expected before it stays apart, and a token that is refused
+-- changes no value.
 abbrev pub Moves : Parser → Parser → Result (Option ℕ) NoMemory → Outcome State → Type 0
 Moves old new (Ok (Some n)) o = (o ≡ Next (stack new) (state new) n) × (new.symbols ≡ old.symbols)
 Moves old new (Ok None) o = (o ≡ Fail) × (state new ≡ state old) × (new.symbols ≡ old.symbols)

@@ -106,45 +106,20 @@ pub(super) fn takes(tail: Tail, x: Sign) -> bool
 pub(super) fn fits(terminal: Terminal, x: Sign) -> bool
     ensures { result ≡ m.fits terminal x }
 {
-    match (terminal, x) {
-        (
-            Terminal::Open,
-            Sign::Token {
-                kind: Kind::Bracket(Bracket::Open),
-                ..
-            },
-        )
-        | (
-            Terminal::Close,
-            Sign::Token {
-                kind: Kind::Bracket(Bracket::Close),
-                ..
-            },
-        )
-        | (
-            Terminal::BraceClose,
-            Sign::Token {
-                kind: Kind::Bracket(Bracket::BraceClose),
-                ..
-            },
-        )
-        | (
-            Terminal::SquareClose,
-            Sign::Token {
-                kind: Kind::Bracket(Bracket::SquareClose),
-                ..
-            },
-        )
-        | (
-            Terminal::Colon,
-            Sign::Token {
-                kind: Kind::Mark(Mark::Colon),
-                ..
-            },
-        ) => true,
-        (Terminal::Semicolon(head), _) => is_end(head, x),
-        _ => false,
+    if let Terminal::Semicolon(head) = terminal {
+        return is_end(head, x);
     }
+    let Sign::Token { kind, .. } = x else {
+        return false;
+    };
+    matches!(
+        (terminal, kind),
+        (Terminal::Open, Kind::Bracket(Bracket::Open))
+            | (Terminal::Close, Kind::Bracket(Bracket::Close))
+            | (Terminal::BraceClose, Kind::Bracket(Bracket::BraceClose))
+            | (Terminal::SquareClose, Kind::Bracket(Bracket::SquareClose))
+            | (Terminal::Colon, Kind::Mark(Mark::Colon))
+    )
 }
 
 /// The bracket that closes a list.

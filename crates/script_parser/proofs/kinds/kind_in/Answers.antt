@@ -1,4 +1,4 @@
-use Rattle.std.proofs.Common.{◌≡◌, ◌∙◌, sym}
+use Rattle.std.proofs.Common.{◌∙◌, sym}
 use Rattle.script_parser.proofs.Texts.{passed_by, found_at}
 use Rattle.script_parser.proofs.kinds.kind_in.Goals as goal
 

@@ -1,4 +1,4 @@
-use Rattle.std.proofs.Common.{◌∙◌, sym, ap}
+use Rattle.std.proofs.Common.{◌∙◌, sym}
 use Rattle.script_parser.proofs.Texts.{same_on, differ_at, lengths_differ}
 use Rattle.script_parser.proofs.kinds.spells.Goals as goal
 

@@ -1,5 +1,4 @@
-use Rattle.std.proofs.Common.{arith, ap, ◌≡◌, sym, ◌∙◌, take, length}
-use Rattle.std.proofs.lemmas.Grind.{common_steps}
+use Rattle.std.proofs.Common.{arith, ap, ◌∙◌}
 use Rattle.script_grammar.specs.Scripts.{Parts}
 use Rattle.script_parser.proofs.Whole.{behind_next, parses_refused, parses_deep, parses_cut, parses_whole}
 use Rattle.script_parser.proofs.script.parse.Goals as goal

@@ -1,4 +1,4 @@
-use Rattle.std.proofs.Common.{arith, Some, None, sym, ◌∙◌}
+use Rattle.std.proofs.Common.{Some, None}
 use Rattle.script_grammar.specs.declared.sign.Sign.TheVariants.{Token as of, Inserted as put}
 use Rattle.script_grammar.specs.Kinds.{kind_of}
 use Rattle.script_parser.proofs.Steps.{read_deep, read_taken, read_refused, read_stuck, read_around, read_smaller, tried_at, tried_token}

@@ -1,6 +1,4 @@
-use Rattle.std.proofs.Common.{◌≡◌, length}
-use Rattle.script_grammar.specs.declared.sign.Sign.TheVariants.{Token as of}
-use Rattle.script_grammar.specs.Kinds.{kind_of}
+use Rattle.std.proofs.Common.{length}
 use Rattle.script_parser.specs.State.{stack}
 use Rattle.script_parser.specs.Progress.{Around}
 use Rattle.script_parser.proofs.parser.Parser.read.Given as goal

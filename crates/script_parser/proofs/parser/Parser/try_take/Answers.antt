@@ -1,4 +1,3 @@
-use Rattle.std.proofs.Common.{Ok}
 use Rattle.script_parser.proofs.Steps.{tried_if}
 use Rattle.script_parser.proofs.parser.Parser.try_take.Goals as goal
 
