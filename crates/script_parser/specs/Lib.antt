@@ -1,0 +1,4 @@
+pub mod Contract
+pub mod Progress
+pub mod Settling
+pub mod State

@@ -1,0 +1,171 @@
+//! Sources that have a script: each production and each condition.
+
+use super::*;
+
+static ACCEPTED: &[&str] = &[
+    // items, declared functions, parameters, bodies
+    "",
+    "a",
+    "function f() {}",
+    "function f(a, b,) { return a }",
+    "function f(get, set) { let a; function g() {} }",
+    "function f() {} function g() {} f(g)",
+    // declarations
+    "let a",
+    "let a, b = 1;",
+    "let a = b = 1",
+    "let a = 1\nlet b",
+    "const a = 1, b = 2;",
+    "{ let a; const b = 1 }",
+    // blocks and empty statements
+    "{}",
+    "{ a; ; { } }",
+    ";",
+    ";;",
+    // expressions as statements
+    "a; b",
+    "({})",
+    "(function () {})",
+    "a, function () {}",
+    "'use strict'; a",
+    // if
+    "if (a) b",
+    "if (a) b; else c",
+    "if (a) b\nelse c",
+    "if (a) {} else {}",
+    "if (a) if (b) c; else d",
+    "if (a) if (b) c; else d; else e",
+    // while and for
+    "while (a) b",
+    "for (;;) ;",
+    "for (let a = 1; b; c) d",
+    "for (let a = 1, b; ; c, d) e",
+    "for (const a = 1;;) b",
+    "for (a; b; c) d",
+    "for (a\n;b;c) d",
+    "for ((a in b);;) c",
+    "for (a[b in c];;) d",
+    "for (a = [b in c];;) d",
+    "for (a ? (b in c) : d;;) e",
+    "for (;a in b;c in d) e",
+    "for (let a = (b in c);;) d",
+    // break, continue, return, throw
+    "while (a) break",
+    "while (a) { continue }",
+    "while (a) { break\nb }",
+    "return",
+    "return;",
+    "return a",
+    "return\na",
+    "return {}",
+    "throw a",
+    "throw a;",
+    // try
+    "try {} catch {}",
+    "try {} catch (a) {}",
+    "try {} finally {}",
+    "try {} catch (a) {} finally {}",
+    "try {} catch {} finally {} a",
+    // comma and assignment
+    "a, b, c",
+    "a = b = c",
+    "a += b; a -= b; a *= b; a %= b",
+    "a.b = c",
+    "a[b] = c",
+    "a().b = c",
+    "new a().b = c",
+    "a ? b : c = d",
+    "a ? b = c : d",
+    // conditional and short operators
+    "a ? b : c",
+    "a ? b : c ? d : e",
+    "a ? b ? c : d : e",
+    "a, b ? c : d",
+    "a || b && c",
+    "a ?? b ?? c",
+    "(a || b) ?? c",
+    "a ?? (b && c)",
+    "(a ?? b) || c",
+    "a == b ?? c + d",
+    // levels
+    "a == b != c === d !== e",
+    "a < b > c <= d >= e",
+    "a in b instanceof c",
+    "a + b - c",
+    "a * b % c",
+    // unary operators and updates
+    "delete a.b; void 0; typeof a",
+    "+a; -a; !a; - -a; + +a; !!a",
+    "- ++a",
+    "++a; --a.b; ++a[b]; ++a().b",
+    "a++; b.c--; d[e]++",
+    "a\n++b",
+    "a\n++\nb",
+    "a++\nb",
+    // members, calls, new
+    "a.b.c; a.if; a.true; a.get",
+    "a[b, c]",
+    "a()(b)(c,)",
+    "a.b(c)[d].e",
+    "new a",
+    "new a()",
+    "new a.b(c)",
+    "new a[b](c)",
+    "new new a(b)(c)",
+    "new (a())()",
+    "new a()()",
+    "new a\n.b",
+    "new function () {}",
+    "new this",
+    // primary expressions
+    "this; null; true; false; 1; 'x'; a",
+    "get; set; of; as; async; eval; arguments; undefined",
+    "(a)",
+    "(a, b)",
+    "(a)(b)",
+    // array literals
+    "[]; [,]; [a]; [a,]; [a,,b]; [,a,,]",
+    "[[a], [b]]",
+    "[a = b, c ? d : e]",
+    // object literals
+    "({a})",
+    "({a,})",
+    "({get})",
+    "({get, set})",
+    "({get: a, set: b})",
+    "({a: 1, 'b': 2, 3: 4, if: 5, [c]: 6})",
+    "({a() {}, 'b'() {}, 3() {}, if() {}, [c]() {}})",
+    "({get() {}, set(a) {}})",
+    "({get a() {}, get 'b'() {}, get 3() {}, get if() {}, get [c]() {}, get get() {}})",
+    "({set a(b) {}, set 'b'(c) {}, set 3(d) {}, set if(e) {}, set [c](f) {}, set set(g) {}})",
+    "({a(b, c,) { return b }})",
+    "({a: b = c})",
+    // function expressions
+    "a = function () {}",
+    "a = function f(b) { return b }",
+    "(function f() { return f })()",
+    // semicolons that are put in
+    "a\nb",
+    "{ a }",
+    "{ a } b",
+    "a /*\n*/ b",
+    "a // b\nc",
+    "let a\nlet b",
+    "a\n;b",
+    "a\n(b)",
+    "a\n[b]",
+    "a\n+ b",
+    "if (a)\nb\nelse\nc",
+    "function f() { return } a",
+    "let a = 1\nlet b = 2\nprint(a\n+ b)\nfunction f(){ return\n7; } print(f())",
+];
+
+#[test]
+fn sources_with_a_script(rt: HostRuntime) {
+    for source in ACCEPTED {
+        match outcome(rt.alloc(), source.as_bytes()) {
+            Ok(_) => {}
+            Err(stop) => panic!(rt; "{source:?}: {stop:?}"),
+        }
+    }
+}
