@@ -74,7 +74,7 @@ sound-linked w s a there = linked-cond w.lists (is_proxy (kind w.lists a)) (prot
 
 -- as many links up as there are objects, from an object or from null: there is nothing more
 pub chains-end : (w : World) (p : Option ObjectId) → IsSound w → IfThere (IsObject w.lists) p → up_from w.lists (length w.lists.objects) p ≡ None
-chains-end w p s there = is-none (up_from w.lists (length w.lists.objects) p) (too-long w.lists s.chains (sound-linked w s) p there)
+chains-end w p s there = is-none (up_from w.lists (length w.lists.objects) p) (too-long w.lists s.intact.chains (sound-linked w s) p there)
 
 -- ---- so more rounds come to the same
 

@@ -37,7 +37,7 @@ kept-plus P w (suc n) o h = kept-one_more P w (plus n o) (kept-plus P w n o h)
 -- an outcome from a later world
 kept-before : (P : Lists → Completion → Type 0) (w v : World) (o : Outcome) → IsLater w v → IsKeptOutcome P v o → IsKeptOutcome P w o
 kept-before P w v (Ended c x n) l h = (h.0, later_then w v x l h.1, h.2)
-kept-before P w v (Halt x n) l h = later_then w v x l h
+kept-before P w v (Halt x n) l h = (h.0, later_then w v x l h.1)
 
 kept-after : (Q P : Lists → Completion → Type 0) (w : World) (o : Outcome) (next : Completion → World → Outcome) → IsKeptOutcome Q w o →
     ((c : Completion) (v : World) → IsSound v → IsLater w v → Q v.lists c → IsKeptOutcome P v (next c v)) → IsKeptOutcome P w (after o next)
@@ -55,7 +55,7 @@ run-kept P S keeps (look f) n w h = run-kept P S keeps (f w.lists) n w h
 run-kept P S keeps (change op p) n w h = kept-before P w (changed op w) (run S p n (changed op w)) (later-changed op w) (run-kept P S keeps p n (changed op w) h)
 run-kept P S keeps (charge t p) n w h =
     kept-cond P w (nat_le t w.turns) (run S p n (charged w t)) (Halt w 0)
-    (kept-before P w (charged w t) (run S p n (charged w t)) (later-charged w t) (run-kept P S keeps p n (charged w t) h)) (later_none w)
+    (kept-before P w (charged w t) (run S p n (charged w t)) (later-charged w t) (run-kept P S keeps p n (charged w t) h.1)) (h.0, later_none w)
 run-kept P S keeps (ask q k) n w h =
     kept-one_more P w (after (S n (Of q) w) (λ c v. run S (k c) n v))
     (kept-after (FitsTask (Of q)) P w (S n (Of q) w) (λ c v. run S (k c) n v) (keeps n (Of q) w h.0 h.1) (λ c v sound later fit. run-kept P S keeps (k c) n v (h.2 c v sound later fit)))
@@ -67,7 +67,7 @@ run-kept P S keeps (print bytes p) n w h =
     kept-before P w (printed_more w bytes) (run S p n (printed_more w bytes)) (later-printed w bytes) (run-kept P S keeps p n (printed_more w bytes) h)
 
 serve-kept : KeepsEach → (d : ℕ) → KeepsSound (serve d)
-serve-kept each zero n t w sound known = later_none w
+serve-kept each zero n t w sound known = (sound.intact, later_none w)
 serve-kept each (suc d) n t w sound known = run-kept (FitsTask t) (serve d) (serve-kept each d) (program_of w.script t) n w (each t w sound known)
 
 -- the model keeps worlds sound, where each algorithm does

@@ -36,7 +36,7 @@ use Rattle.es_model.proofs.KeptWrites.{kept-if, error-kept, define-kept, delete-
 entering-kept : (q : Request) (w : World) → IsSound w → IsKept (FitsTask (Of q)) (entering unwritten) w
 entering-kept q w s =
     let s1 = sound-charged w 1 s in
-    ((s1, tt), error-kept q (charged w 1) error.RangeError (codes "too many nested calls") s1 (omega arith))
+    (s.intact, ((s1, tt), error-kept q (charged w 1) error.RangeError (codes "too many nested calls") s1 (omega arith)))
 
 no_function-kept : (q : Request) (w : World) → IsSound w → IsKept (FitsTask (Of q)) not_a_function w
 no_function-kept q w s = error-kept q w error.TypeError (codes "not a function") s (omega arith)

@@ -78,4 +78,4 @@ keys-known l x short h =
 
 pub keys-kept : (w : World) (o : ObjectId) → IsSound w → IsObject w.lists o → IsKept (FitsTask (Of (Keys o))) (keys_program o) w
 unfolding own_keys
-keys-kept w o s there = (s, (tt, keys-known w.lists (object_at w.lists.objects o) s.lengths (s.objects o there).properties))
+keys-kept w o s there = (s, (tt, keys-known w.lists (object_at w.lists.objects o) s.intact.lengths (s.intact.objects o there).properties))

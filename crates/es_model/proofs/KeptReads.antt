@@ -27,14 +27,14 @@ find-known l [] k h = tt
 find-known l (p ∷ ps) k h = found-cond l (same_key p.key k) p.complete (find_property ps k) h.0.1 (find-known l ps k h.1)
 
 pub own-known : (w : World) (o : ObjectId) (k : PropKey) → IsSound w → IsObject w.lists o → IfThere (IsKnownComplete w.lists) (own w.lists o k)
-own-known w o k sound there = find-known w.lists _ k (sound.objects o there).properties
+own-known w o k sound there = find-known w.lists _ k (sound.intact.objects o there).properties
 
 pub proto-known : (w : World) (o : ObjectId) → IsSound w → IsObject w.lists o → IfThere (IsObject w.lists) (proto w.lists o)
-proto-known w o sound there = (sound.objects o there).proto
+proto-known w o sound there = (sound.intact.objects o there).proto
 
 pub sound-charged : (w : World) (n : ℕ) → IsSound w → IsSound (charged w n)
 unfolding charged
-sound-charged w n s = record { objects = s.objects; cells = s.cells; descriptions = s.descriptions; texts = s.texts; lengths = s.lengths; symbols = s.symbols; start = s.start; chains = s.chains }
+sound-charged w n s = record { intact = s.intact; kinds = s.kinds }
 
 pub get_own-kept : (w : World) (o : ObjectId) (k : PropKey) → IsSound w → IsObject w.lists o → IsKept (FitsTask (Of (GetOwn o k))) (get_own_program o k) w
 get_own-kept w o k sound there = (sound, (tt, own-known w o k sound there))
@@ -48,7 +48,7 @@ extensible-kept w o sound = (sound, (tt, tt))
 has_found-kept : (w : World) (o : ObjectId) (found : Option Complete) (up : Option ObjectId) (k : PropKey) → IsSound w → IfThere (IsObject w.lists) up → IsKnownKey w.lists k → IsKept (FitsTask (Of (Has o k))) (has_found found up k) w
 unfolding charged
 has_found-kept w o (Some c) up k sound known key = (sound, (tt, tt))
-has_found-kept w o None (Some parent) k sound known key = (sound-charged w 1 sound, (known, key), λ c v later-sound later fit. (later-sound, fit))
+has_found-kept w o None (Some parent) k sound known key = (sound.intact, (sound-charged w 1 sound, (known, key), λ c v later-sound later fit. (later-sound, fit)))
 has_found-kept w o None None k sound known key = (sound, (tt, tt))
 
 pub has-kept : (w : World) (o : ObjectId) (k : PropKey) → IsSound w → IsObject w.lists o → IsKnownKey w.lists k → IsKept (FitsTask (Of (Has o k))) (has_program o k) w
@@ -58,7 +58,7 @@ get_found-kept : (w : World) (o : ObjectId) (site : Option SiteId) (found : Opti
     IsKept (FitsTask (Of (Read o k r site))) (get_found found up k r) w
 unfolding charged
 get_found-kept w o site None None k r sound h known key receiver = (sound, (tt, tt))
-get_found-kept w o site None (Some parent) k r sound h known key receiver = (sound-charged w 1 sound, (known, key, receiver), λ c v later-sound later fit. (later-sound, fit))
+get_found-kept w o site None (Some parent) k r sound h known key receiver = (sound.intact, (sound-charged w 1 sound, (known, key, receiver), λ c v later-sound later fit. (later-sound, fit)))
 get_found-kept w o site (Some (Stored x flags)) up k r sound h known key receiver = (sound, (tt, h))
 get_found-kept w o site (Some (Accessor None set e c)) up k r sound h known key receiver = (sound, (tt, tt))
 get_found-kept w o site (Some (Accessor (Some getter) set e c)) up k r sound h known key receiver = (sound, (h.0, receiver, tt), λ c v later-sound later fit. (later-sound, fit))

@@ -1,6 +1,5 @@
 -- The methods that change, calls and errors keep worlds sound.
 use Rattle.std.proofs.Common.{◌≡◌, ℕ, Bool, true, false, cond, Option, Some, None, List, [], ◌∷◌, ◌++◌, length, refl, ap, ◌∙◌, arith}
-use Rattle.std.specs.Prelude.{codes}
 use Rattle.property_keys.specs.declared.identifiers.ObjectId.{ObjectId}
 use Rattle.property_keys.specs.declared.identifiers.TextId.{TextId}
 use Rattle.property_keys.specs.declared.keys.PropKey.{PropKey}
@@ -18,6 +17,8 @@ use Rattle.es_model.specs.declared.kinds.ErrorKind.{ErrorKind}
 use Rattle.es_model.specs.declared.kinds.ObjectKind.TheVariants as kind_of
 use Rattle.es_model.specs.declared.intrinsics.Class.TheVariants as class
 use Rattle.es_model.specs.declared.intrinsics.Intrinsic.TheVariants as intrinsic
+use Rattle.es_model.specs.declared.start_texts.StartText.TheVariants as start
+use Rattle.es_model.specs.StartTexts.{units_of_start}
 use Rattle.es_model.specs.declared.answers.Completion.{Completion}
 use Rattle.es_model.specs.declared.answers.Completion.TheVariants.{Normal, Throw}
 use Rattle.es_model.specs.declared.answers.Reply.TheVariants as reply
@@ -81,23 +82,23 @@ made-there w k =
 hidden-known : (l : Lists) (t : TextId) → IsText l t → IsKnownDescriptor l (hidden (value.Text t))
 hidden-known l t h = record { value = h; get = tt; set = tt; sound = refl }
 
-message-is_no_index : array_index_of (codes "message") ≡ None
-message-is_no_index = array_index_of-no_number (codes "message") refl
+message-is_no_index : array_index_of (units_of_start start.Message) ≡ None
+message-is_no_index = array_index_of-no_number (units_of_start start.Message) refl
 
 pub error-kept : (q : Request) (w : World) (k : ErrorKind) (text : List ℕ) → IsSound w → IsShort text → IsKept (FitsTask (Of q)) (throw_error k text) w
 error-kept q w k text s short =
     let a : World = changed (Interning text) w in
     let t : TextId = number_of w.lists text in
-    let b : World = changed (Interning (codes "message")) a in
-    let name : TextId = number_of a.lists (codes "message") in
+    let b : World = changed (Interning (units_of_start start.Message)) a in
+    let name : TextId = number_of a.lists (units_of_start start.Message) in
     let c : World = changed (Making kind_of.Error OfError (error_proto k)) b in
     let e : ObjectId = new_object b.lists in
     let sa : IsSound a = sound-interning w text s short in
-    let sb : IsSound b = sound-interning a (codes "message") sa (omega arith) in
-    let sc : IsSound c = sound-making b kind_of.Error OfError (error_proto k) sb tt (sb.start (intrinsic.Prototype (class.Error k))).0 in
+    let sb : IsSound b = sound-interning a (units_of_start start.Message) sa (omega arith) in
+    let sc : IsSound c = sound-making b kind_of.Error OfError (error_proto k) sb tt tt (sb.intact.start (intrinsic.Prototype (class.Error k))).0 in
     let bc = grows-changed (Making kind_of.Error OfError (error_proto k)) b in
-    let t-known : IsText c.lists t = text-later b.lists c.lists bc t (text-later a.lists b.lists (grows-changed (Interning (codes "message")) a) t (interned-known w text)) in
-    let key : IsKnownKey b.lists (Name name) = ((interned-known a (codes "message"), ap array_index_of (interned-names a (codes "message")) ∙ message-is_no_index), tt) in
+    let t-known : IsText c.lists t = text-later b.lists c.lists bc t (text-later a.lists b.lists (grows-changed (Interning (units_of_start start.Message)) a) t (interned-known w text)) in
+    let key : IsKnownKey b.lists (Name name) = ((interned-known a (units_of_start start.Message), ap array_index_of (interned-names a (units_of_start start.Message)) ∙ message-is_no_index), tt) in
     let there : IsObject c.lists e = made-there b k in
     let d : Descriptor = hidden (value.Text t) in (
       sound-defining c e (Name name) d sc there (key-later b.lists c.lists bc (Name name) key) (hidden-known c.lists t t-known),
@@ -162,7 +163,7 @@ set_called-kept o k x r site w (Normal y) s fit = (s, (tt, tt))
 set_found-kept : (o : ObjectId) (x r : Value) (site : Option SiteId) (w : World) (found : Option Complete) (up : Option ObjectId) (k : PropKey) (v receiver : Value) → IsSound w → IfThere (IsKnownComplete w.lists) found → IfThere (IsObject w.lists) up → IsKnownKey w.lists k → IsKnown w.lists v → IsKnown w.lists receiver →
     IsKept (FitsTask (Of (Write o k x r site))) (set_found found up k v receiver) w
 unfolding charged
-set_found-kept o x r site w None (Some parent) k v receiver s h up key known there = (sound-charged w 1 s, (up, key, known, there), λ c u later-sound later fit. (later-sound, fit))
+set_found-kept o x r site w None (Some parent) k v receiver s h up key known there = (s.intact, (sound-charged w 1 s, (up, key, known, there), λ c u later-sound later fit. (later-sound, fit)))
 set_found-kept o x r site w None None k v receiver s h up key known there = set_receiver-kept o x r site w k v receiver s key known there
 set_found-kept o x r site w (Some (Stored y flags)) up k v receiver s h u key known there =
     kept-if (FitsTask (Of (Write o k x r site))) w flags.writable _ _ (set_receiver-kept o x r site w k v receiver s key known there) (s, (tt, tt))

@@ -1,5 +1,5 @@
 -- What is known stays known while lists grow.
-use Rattle.std.proofs.Common.{◌≡◌, ◌<◌, ℕ, Option, Some, None, List, [], ◌∷◌, length, get_or, slice_get, ap, ◌∙◌, arith}
+use Rattle.std.proofs.Common.{◌≡◌, ◌<◌, ℕ, Bool, true, false, refl, sym, Option, Some, None, List, [], ◌∷◌, length, get_or, slice_get, ap, ◌∙◌, arith}
 use Rattle.std.specs.List.{AllByRecursion}
 use Rattle.std.proofs.lemmas.Option.{slice_get_within, slice_get-get_or, get_or_from_slice_get}
 use Rattle.property_keys.specs.declared.identifiers.ObjectId.{ObjectId}
@@ -17,12 +17,16 @@ use Rattle.es_model.specs.declared.kinds.CellNo.{CellNo}
 use Rattle.es_model.specs.declared.kinds.ObjectKind.{ObjectKind}
 use Rattle.es_model.specs.declared.kinds.ObjectKind.TheVariants as kind_of
 use Rattle.es_model.specs.declared.owned.OwnProperty.{OwnProperty}
+use Rattle.es_model.specs.declared.intrinsics.Intrinsic.{Intrinsic}
+use Rattle.es_model.specs.StartObjects.{object_of}
+use Rattle.es_model.specs.StartTable.{start_kind}
 use Rattle.es_model.specs.Tree.{Tree}
-use Rattle.es_model.specs.Objects.{Object}
-use Rattle.es_model.specs.World.{Lists}
-use Rattle.es_model.specs.Grows.{Grows}
+use Rattle.es_model.specs.Builtins.{BuiltinFacts, builtin_facts}
+use Rattle.es_model.specs.Objects.{Object, is_proxy}
+use Rattle.es_model.specs.World.{Lists, kind}
+use Rattle.es_model.specs.Grows.{Grows, fixed_kind}
 use Rattle.es_model.specs.Known.{IsObject, IsText, IsCell, IfThere, IsKnown, IsKnownKey, IsKnownComplete, IsKnownProperty, IsKnownDescriptor}
-use Rattle.es_model.specs.Sound.{IsKnownKind, IsSoundObject}
+use Rattle.es_model.specs.Sound.{IsKnownKind, IsIntactObject, HasItsProxy, HasRow, IsRightKind}
 
 pub all-map : {X : Type 0} (P Q : X → Type 0) → ((x : X) → P x → Q x) → (xs : List X) → AllByRecursion P xs → AllByRecursion Q xs
 all-map P Q f [] h = tt
@@ -77,22 +81,60 @@ descriptor-later l l' g d h = record {
   sound = h.sound;
 }
 
-pub kind-later : (script : Tree) (l l' : Lists) → Grows l l' → (o : ObjectId) (k : ObjectKind) → IsKnownKind script l o k → IsKnownKind script l' o k
-kind-later script l l' g o kind_of.Ordinary h = tt
-kind-later script l l' g o (kind_of.Function function constructor strict) h = h
-kind-later script l l' g o (kind_of.Builtin row constructor proxy) h = there-map (IsObject l) (IsObject l') (object-later l l' g) proxy h
-kind-later script l l' g o kind_of.Array h = tt
-kind-later script l l' g o (kind_of.Text t) h = text-later l l' g t h
-kind-later script l l' g o (kind_of.Wrapper v) h = known-later l l' g v h
-kind-later script l l' g o (kind_of.Arguments cells) h =
+pub kind-later : (l l' : Lists) → Grows l l' → (k : ObjectKind) → IsKnownKind l k → IsKnownKind l' k
+kind-later l l' g kind_of.Ordinary h = tt
+kind-later l l' g (kind_of.Function function constructor strict) h = tt
+kind-later l l' g (kind_of.Builtin row constructor proxy) h = there-map (IsObject l) (IsObject l') (object-later l l' g) proxy h
+kind-later l l' g kind_of.Array h = tt
+kind-later l l' g (kind_of.Text t) h = text-later l l' g t h
+kind-later l l' g (kind_of.Wrapper v) h = known-later l l' g v h
+kind-later l l' g (kind_of.Arguments cells) h =
     all-map (IfThere (IsCell l)) (IfThere (IsCell l')) (there-map (IsCell l) (IsCell l') (cell-later l l' g)) cells h
-kind-later script l l' g o kind_of.Error h = tt
-kind-later script l l' g o (kind_of.Proxy target handler callable constructor) h = (h.0, there-map (IsObject l) (IsObject l') (object-later l l' g) handler h.1)
+kind-later l l' g kind_of.Error h = tt
+kind-later l l' g (kind_of.Proxy target handler callable constructor) h =
+    (there-map (IsObject l) (IsObject l') (object-later l l' g) target h.0, there-map (IsObject l) (IsObject l') (object-later l l' g) handler h.1)
 
-pub sound_object-later : (script : Tree) (l l' : Lists) → Grows l l' → (o : ObjectId) (x : Object) → IsSoundObject script l o x → IsSoundObject script l' o x
-sound_object-later script l l' g o x h = record {
-  slots = kind-later script l l' g o x.kind h.slots;
+pub intact_object-later : (l l' : Lists) → Grows l l' → (x : Object) → IsIntactObject l x → IsIntactObject l' x
+intact_object-later l l' g x h = record {
+  slots = kind-later l l' g x.kind h.slots;
   proto = there-map (IsObject l) (IsObject l') (object-later l l' g) x.proto h.proto;
   properties = all-map (IsKnownProperty l) (IsKnownProperty l') (property-later l l' g) x.properties h.properties;
   distinct = h.distinct;
 }
+
+proxy-fixed : (k : ObjectKind) → is_proxy (fixed_kind k) ≡ is_proxy k
+proxy-fixed kind_of.Ordinary = refl
+proxy-fixed (kind_of.Function function constructor strict) = refl
+proxy-fixed (kind_of.Builtin row constructor proxy) = refl
+proxy-fixed kind_of.Array = refl
+proxy-fixed (kind_of.Text t) = refl
+proxy-fixed (kind_of.Wrapper v) = refl
+proxy-fixed (kind_of.Arguments cells) = refl
+proxy-fixed kind_of.Error = refl
+proxy-fixed (kind_of.Proxy target handler callable constructor) = refl
+
+its_proxy-later : (l l' : Lists) → Grows l l' → (revokes : Bool) (proxy : Option ObjectId) → HasItsProxy l revokes proxy → HasItsProxy l' revokes proxy
+its_proxy-later l l' g true None h = h
+its_proxy-later l l' g true (Some p) h =
+    (object-later l l' g p h.0, sym (proxy-fixed (kind l' p)) ∙ ap is_proxy (g.kinds p h.0) ∙ proxy-fixed (kind l p) ∙ h.1)
+its_proxy-later l l' g false None h = h
+its_proxy-later l l' g false (Some p) h = h
+
+row-later : (l l' : Lists) → Grows l l' → (facts : Option BuiltinFacts) (constructor : Bool) (proxy : Option ObjectId) → HasRow l facts constructor proxy → HasRow l' facts constructor proxy
+row-later l l' g None constructor proxy h = h
+row-later l l' g (Some facts) constructor proxy h = (h.0, its_proxy-later l l' g facts.revokes proxy h.1)
+
+pub right-later : (script : Tree) (l l' : Lists) → Grows l l' → (o : ObjectId) (k : ObjectKind) → IsRightKind script l o k → IsRightKind script l' o k
+right-later script l l' g o kind_of.Ordinary h = tt
+right-later script l l' g o (kind_of.Function function constructor strict) h = (h.0, (let x = g.cells in let y = h.1 in omega arith))
+right-later script l l' g o (kind_of.Builtin row constructor proxy) h = row-later l l' g (builtin_facts row) constructor proxy h
+right-later script l l' g o kind_of.Array h = tt
+right-later script l l' g o (kind_of.Text t) h = tt
+right-later script l l' g o (kind_of.Wrapper v) h = tt
+right-later script l l' g o (kind_of.Arguments cells) h = tt
+right-later script l l' g o kind_of.Error h = tt
+right-later script l l' g o (kind_of.Proxy target handler callable constructor) h = h
+
+-- a start object stays one, with its kind
+pub start-later : (l l' : Lists) → Grows l l' → (i : Intrinsic) → IsObject l (object_of i) × (fixed_kind (kind l (object_of i)) ≡ start_kind i) → IsObject l' (object_of i) × (fixed_kind (kind l' (object_of i)) ≡ start_kind i)
+start-later l l' g i h = (object-later l l' g (object_of i) h.0, g.kinds (object_of i) h.0 ∙ h.1)

@@ -9,10 +9,12 @@ pub mod Carried
 pub mod Growing
 pub mod Turning
 pub mod Starting
+pub mod StartSound
 pub mod Keeping
 pub mod KeptReads
 pub mod TextPlaces
 pub mod KnownLater
+pub mod Belonging
 pub mod SoundPut
 pub mod SoundProperties
 pub mod SoundNew

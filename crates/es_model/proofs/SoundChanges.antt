@@ -24,16 +24,16 @@ use Rattle.es_model.specs.Events.{Event, Origin, Way, Made, MadePrototype}
 use Rattle.es_model.specs.World.{World, own, kind, extensible, definition, new_object}
 use Rattle.es_model.specs.Changes.{Defining, Storing, Deleting, Preventing, Making, Interning, MakingSymbol, MakingCell, SettingCell, Constructing, Accessing, noted, with_objects, with_object, added, replaced, removed, applied, stored_at, deleted_at, prototype_noted, made, closed, text_known, symbol_made, cell_made, cell_set, construction_noted, access_noted, changed}
 use Rattle.es_model.specs.Known.{IsObject, IsText, IfThere, IsKnown, IsKnownKey, IsKnownComplete, IsKnownProperty, IsKnownDescriptor}
-use Rattle.es_model.specs.Sound.{IsKnownKind, IsShort, IsSound}
+use Rattle.es_model.specs.Sound.{IsKnownKind, IsRightKind, IsShort, IsSound}
 use Rattle.es_model.proofs.Growing.{grows-put, grows-changed}
 use Rattle.es_model.proofs.KnownLater.{all-map, there-map, known-later, text-later}
 use Rattle.es_model.proofs.KeptReads.{own-known}
-use Rattle.es_model.proofs.SoundPut.{sound-put, sound-others}
+use Rattle.es_model.proofs.SoundPut.{chains-put, sound-put, sound-others}
 use Rattle.es_model.proofs.SoundProperties.{all-cond, all-append, all-set, all-filter, known-replaced, distinct-replaced, distinct-filter, distinct-added, IsKnownVerdict, verdict-known}
 use Rattle.es_model.proofs.SoundNew.{sound-new, one-each}
 
 pub sound-noted : (w : World) (e : Event) → IsSound w → IsSound (noted w e)
-sound-noted w e s = record { objects = s.objects; cells = s.cells; descriptions = s.descriptions; texts = s.texts; lengths = s.lengths; symbols = s.symbols; start = s.start; chains = s.chains }
+sound-noted w e s = record { intact = s.intact; kinds = s.kinds }
 
 pub sound-cond : (b : Bool) (v w : World) → IsSound v → IsSound w → IsSound (cond b v w)
 sound-cond true v w h h' = h
@@ -46,27 +46,27 @@ unfolding added
 sound-added w o k c s key known absent =
     let x : Object = object_at w.lists.objects o in
     let x' : Object = with_properties x (add_property x.properties k c) in
-    sound-noted (with_object w o x') _ (sound-put w o x' s (grows-put w o x' refl) (record { link = refl; start = λ i h. h })
-    (λ there. let old = s.objects o there in
-    record { slots = old.slots; proto = old.proto; properties = all-append (IsKnownProperty w.lists) x.properties (record { key = k; complete = c }) (key, known) old.properties; distinct = distinct-added x.properties k c absent old.distinct }))
+    sound-noted (with_object w o x') _ (sound-put w o x' s (grows-put w o x' refl) (chains-put w o x' refl s.intact.chains)
+    (λ there. let old = s.intact.objects o there in
+    (record { slots = old.slots; proto = old.proto; properties = all-append (IsKnownProperty w.lists) x.properties (record { key = k; complete = c }) (key, known) old.properties; distinct = distinct-added x.properties k c absent old.distinct }, s.kinds o there)))
 
 sound-replaced : (w : World) (o : ObjectId) (k : PropKey) (before c : Complete) → IsSound w → IsKnownComplete w.lists c → IsSound (replaced w o k before c)
 unfolding replaced
 sound-replaced w o k before c s known =
     let x : Object = object_at w.lists.objects o in
     let x' : Object = with_properties x (replace_property x.properties k c) in
-    sound-noted (with_object w o x') _ (sound-put w o x' s (grows-put w o x' refl) (record { link = refl; start = λ i h. h })
-    (λ there. let old = s.objects o there in
-    record { slots = old.slots; proto = old.proto; properties = known-replaced w.lists x.properties k c known old.properties; distinct = distinct-replaced x.properties k c old.distinct }))
+    sound-noted (with_object w o x') _ (sound-put w o x' s (grows-put w o x' refl) (chains-put w o x' refl s.intact.chains)
+    (λ there. let old = s.intact.objects o there in
+    (record { slots = old.slots; proto = old.proto; properties = known-replaced w.lists x.properties k c known old.properties; distinct = distinct-replaced x.properties k c old.distinct }, s.kinds o there)))
 
 sound-removed : (w : World) (o : ObjectId) (k : PropKey) → IsSound w → IsSound (removed w o k)
 unfolding removed
 sound-removed w o k s =
     let x : Object = object_at w.lists.objects o in
     let x' : Object = with_properties x (remove_property x.properties k) in
-    sound-noted (with_object w o x') _ (sound-put w o x' s (grows-put w o x' refl) (record { link = refl; start = λ i h. h })
-    (λ there. let old = s.objects o there in
-    record { slots = old.slots; proto = old.proto; properties = all-filter (IsKnownProperty w.lists) (λ p. not (same_key p.key k)) x.properties old.properties; distinct = distinct-filter (λ p. not (same_key p.key k)) x.properties old.distinct }))
+    sound-noted (with_object w o x') _ (sound-put w o x' s (grows-put w o x' refl) (chains-put w o x' refl s.intact.chains)
+    (λ there. let old = s.intact.objects o there in
+    (record { slots = old.slots; proto = old.proto; properties = all-filter (IsKnownProperty w.lists) (λ p. not (same_key p.key k)) x.properties old.properties; distinct = distinct-filter (λ p. not (same_key p.key k)) x.properties old.distinct }, s.kinds o there)))
 
 sound-applied : (w : World) (o : ObjectId) (k : PropKey) (now : Option Complete) (v : Verdict) → IsSound w → IsKnownKey w.lists k → own w.lists o k ≡ now → IsKnownVerdict w.lists v → IsSound (applied w o k now v)
 sound-applied w o k now verdict.Refuse s key e h = s
@@ -103,8 +103,8 @@ sound-closed : (w : World) (o : ObjectId) → IsSound w → IsSound (closed w o)
 unfolding closed
 sound-closed w o s =
     let x' : Object = record (object_at w.lists.objects o) { extensible = false } in
-    sound-noted (with_object w o x') _ (sound-put w o x' s (grows-put w o x' refl) (record { link = refl; start = λ i h. h })
-    (λ there. let old = s.objects o there in record { slots = old.slots; proto = old.proto; properties = old.properties; distinct = old.distinct }))
+    sound-noted (with_object w o x') _ (sound-put w o x' s (grows-put w o x' refl) (chains-put w o x' refl s.intact.chains)
+    (λ there. let old = s.intact.objects o there in (record { slots = old.slots; proto = old.proto; properties = old.properties; distinct = old.distinct }, s.kinds o there)))
 
 pub sound-preventing : (w : World) (o : ObjectId) → IsSound w → IsSound (changed (Preventing o) w)
 unfolding changed
@@ -114,11 +114,11 @@ sound-prototype : (w : World) (p : Option ObjectId) → IsSound w → IsSound (p
 sound-prototype w None s = s
 sound-prototype w (Some p) s = sound-cond (is_proxy (kind w.lists p)) w (noted w (MadePrototype p)) s (sound-noted w (MadePrototype p) s)
 
-pub sound-making : (w : World) (k : ObjectKind) (origin : Origin) (p : Option ObjectId) → IsSound w → IsKnownKind w.script w.lists (new_object w.lists) k → IfThere (IsObject w.lists) p → IsSound (changed (Making k origin p) w)
+pub sound-making : (w : World) (k : ObjectKind) (origin : Origin) (p : Option ObjectId) → IsSound w → IsKnownKind w.lists k → IsRightKind w.script w.lists (new_object w.lists) k → IfThere (IsObject w.lists) p → IsSound (changed (Making k origin p) w)
 unfolding changed made
-sound-making w k origin p s slots known =
+sound-making w k origin p s slots right known =
     let v : World = with_objects w (w.lists.objects ++ new_object_of k p ∷ []) in
-    let new : IsSound v = sound-new w k p s slots known in
+    let new : IsSound v = sound-new w k p s slots right known in
     sound-cond (is_proxy k) v (noted (prototype_noted v p) (Made (new_object w.lists) origin p)) new (sound-noted (prototype_noted v p) _ (sound-prototype v p new))
 
 -- ---- texts, Symbols, cells
@@ -129,10 +129,10 @@ sound-interning w text s short =
     let v : World = record w { lists = record w.lists { texts = interned w.lists.texts text } } in
     let g = grows-changed (Interning text) w in
     sound-others w v s g refl refl
-    (all-map (IfThere (IsKnown w.lists)) (IfThere (IsKnown v.lists)) (there-map (IsKnown w.lists) (IsKnown v.lists) (known-later w.lists v.lists g)) w.lists.cells s.cells)
-    (all-map (IfThere (IsText w.lists)) (IfThere (IsText v.lists)) (there-map (IsText w.lists) (IsText v.lists) (text-later w.lists v.lists g)) w.lists.symbols s.descriptions)
-    (one-each w.lists.texts text s.texts)
-    (all-cond IsShort (list_any (bytes_eq text) w.lists.texts) w.lists.texts (w.lists.texts ++ text ∷ []) s.lengths (all-append IsShort w.lists.texts text short s.lengths))
+    (all-map (IfThere (IsKnown w.lists)) (IfThere (IsKnown v.lists)) (there-map (IsKnown w.lists) (IsKnown v.lists) (known-later w.lists v.lists g)) w.lists.cells s.intact.cells)
+    (all-map (IfThere (IsText w.lists)) (IfThere (IsText v.lists)) (there-map (IsText w.lists) (IsText v.lists) (text-later w.lists v.lists g)) w.lists.symbols s.intact.descriptions)
+    (one-each w.lists.texts text s.intact.texts)
+    (all-cond IsShort (list_any (bytes_eq text) w.lists.texts) w.lists.texts (w.lists.texts ++ text ∷ []) s.intact.lengths (all-append IsShort w.lists.texts text short s.intact.lengths))
 
 pub sound-symbol : (w : World) (d : Option TextId) → IsSound w → IfThere (IsText w.lists) d → IsSound (changed (MakingSymbol d) w)
 unfolding changed symbol_made
@@ -140,8 +140,8 @@ sound-symbol w d s h =
     let v : World = record w { lists = record w.lists { symbols = w.lists.symbols ++ d ∷ [] } } in
     let g = grows-changed (MakingSymbol d) w in
     sound-others w v s g refl refl
-    (all-map (IfThere (IsKnown w.lists)) (IfThere (IsKnown v.lists)) (there-map (IsKnown w.lists) (IsKnown v.lists) (known-later w.lists v.lists g)) w.lists.cells s.cells)
-    (all-append (IfThere (IsText v.lists)) w.lists.symbols d h s.descriptions) s.texts s.lengths
+    (all-map (IfThere (IsKnown w.lists)) (IfThere (IsKnown v.lists)) (there-map (IsKnown w.lists) (IsKnown v.lists) (known-later w.lists v.lists g)) w.lists.cells s.intact.cells)
+    (all-append (IfThere (IsText v.lists)) w.lists.symbols d h s.intact.descriptions) s.intact.texts s.intact.lengths
 
 pub sound-cell : (w : World) (x : Option Value) → IsSound w → IfThere (IsKnown w.lists) x → IsSound (changed (MakingCell x) w)
 unfolding changed cell_made
@@ -150,7 +150,7 @@ sound-cell w x s h =
     let g = grows-changed (MakingCell x) w in
     let f = there-map (IsKnown w.lists) (IsKnown v.lists) (known-later w.lists v.lists g) in
     sound-others w v s g refl refl
-    (all-append (IfThere (IsKnown v.lists)) w.lists.cells x (f x h) (all-map (IfThere (IsKnown w.lists)) (IfThere (IsKnown v.lists)) f w.lists.cells s.cells)) s.descriptions s.texts s.lengths
+    (all-append (IfThere (IsKnown v.lists)) w.lists.cells x (f x h) (all-map (IfThere (IsKnown w.lists)) (IfThere (IsKnown v.lists)) f w.lists.cells s.intact.cells)) s.intact.descriptions s.intact.texts s.intact.lengths
 
 pub sound-cell_set : (w : World) (c : CellNo) (x : Value) → IsSound w → IsKnown w.lists x → IsSound (changed (SettingCell c x) w)
 unfolding changed cell_set
@@ -159,7 +159,7 @@ sound-cell_set w c x s h =
     let g = grows-changed (SettingCell c x) w in
     let f = there-map (IsKnown w.lists) (IsKnown v.lists) (known-later w.lists v.lists g) in
     sound-others w v s g refl refl
-    (all-set (IfThere (IsKnown v.lists)) w.lists.cells c.0 (Some x) (known-later w.lists v.lists g x h) (all-map (IfThere (IsKnown w.lists)) (IfThere (IsKnown v.lists)) f w.lists.cells s.cells)) s.descriptions s.texts s.lengths
+    (all-set (IfThere (IsKnown v.lists)) w.lists.cells c.0 (Some x) (known-later w.lists v.lists g x h) (all-map (IfThere (IsKnown w.lists)) (IfThere (IsKnown v.lists)) f w.lists.cells s.intact.cells)) s.intact.descriptions s.intact.texts s.intact.lengths
 
 -- ---- events alone
 

@@ -9,19 +9,19 @@ use Rattle.std.proofs.lemmas.Slice.Eq.{bytes_eq-Decides}
 use Rattle.property_keys.specs.declared.identifiers.ObjectId.{ObjectId}
 use Rattle.property_keys.specs.Texts.{HasOneEach, interned, text_at}
 use Rattle.es_model.specs.declared.kinds.ObjectKind.{ObjectKind}
-use Rattle.es_model.specs.StartObjects.{object_of}
 use Rattle.es_model.specs.Tree.{Tree}
 use Rattle.es_model.specs.Objects.{Object, object_at, no_object, is_proxy, new_object_of}
 use Rattle.es_model.specs.World.{Lists, World, proto, kind, new_object}
 use Rattle.es_model.specs.Changes.{with_objects}
 use Rattle.es_model.specs.Grows.{Grows}
 use Rattle.es_model.specs.Known.{IsObject, IsText, IfThere, IsKnown}
-use Rattle.es_model.specs.Sound.{IsKnownKind, IsSoundObject, IsStartKind, IsSound, link, up, NeverReturns}
+use Rattle.es_model.specs.Sound.{IsKnownKind, IsIntactObject, IsRightKind, IsIntact, IsSound, link, up, NeverReturns}
 use Rattle.es_model.proofs.Growing.{grows-last}
-use Rattle.es_model.proofs.KnownLater.{all-map, there-map, known-later, text-later, object-later, sound_object-later}
+use Rattle.es_model.proofs.KnownLater.{all-map, there-map, known-later, text-later, intact_object-later, right-later, start-later}
 use Rattle.es_model.proofs.SoundPut.{link_of}
 
-split : (R : Type 0) (i n : ℕ) → i < suc n → (i < n → R) → (i ≡ n → R) → R
+-- a number below the next one is below this one, or this one
+pub split : (R : Type 0) (i n : ℕ) → i < suc n → (i < n → R) → (i ≡ n → R) → R
 split R zero zero b f g = g refl
 split R zero (suc n) b f g = f (omega arith)
 split R (suc i) zero b f g = absurd (omega arith)
@@ -69,40 +69,45 @@ chains-new l l' e count last h o n there back =
 
 -- ---- a new object
 
-new-sound : (script : Tree) (l : Lists) (k : ObjectKind) (p : Option ObjectId) (b : Bool) → IsKnownKind script l (new_object l) k → IfThere (IsObject l) p →
-    IsSoundObject script l (new_object l) (cond b (record { kind = k; proto = None; extensible = false; properties = [] }) (record { kind = k; proto = p; extensible = true; properties = [] }))
-new-sound script l k p true h h' = record { slots = h; proto = tt; properties = tt; distinct = tt }
-new-sound script l k p false h h' = record { slots = h; proto = h'; properties = tt; distinct = tt }
+new-intact : (l : Lists) (k : ObjectKind) (p : Option ObjectId) (b : Bool) → IsKnownKind l k → IfThere (IsObject l) p →
+    IsIntactObject l (cond b (record { kind = k; proto = None; extensible = false; properties = [] }) (record { kind = k; proto = p; extensible = true; properties = [] }))
+new-intact l k p true h h' = record { slots = h; proto = tt; properties = tt; distinct = tt }
+new-intact l k p false h h' = record { slots = h; proto = h'; properties = tt; distinct = tt }
 
-sound-last : (w : World) (x : Object) → IsSound w → IsSoundObject w.script w.lists (new_object w.lists) x → IsSound (with_objects w (w.lists.objects ++ x ∷ []))
-sound-last w x s sound =
+new-right : (script : Tree) (l : Lists) (o : ObjectId) (k : ObjectKind) (p : Option ObjectId) (b : Bool) → IsRightKind script l o k →
+    IsRightKind script l o (cond {A = Object} b (record { kind = k; proto = None; extensible = false; properties = [] }) (record { kind = k; proto = p; extensible = true; properties = [] })).kind
+new-right script l o k p true h = h
+new-right script l o k p false h = h
+
+sound-last : (w : World) (x : Object) → IsSound w → IsIntactObject w.lists x → IsRightKind w.script w.lists (new_object w.lists) x.kind → IsSound (with_objects w (w.lists.objects ++ x ∷ []))
+sound-last w x s new right =
     let l : Lists = w.lists in
     let l' : Lists = (with_objects w (w.lists.objects ++ x ∷ [])).lists in
     let g : Grows l l' = grows-last w x in
     let count : length l'.objects ≡ suc (length l.objects) = (let n = length-append l.objects (x ∷ []) in omega arith) in
+    let i : IsIntact l = s.intact in
     record {
-      objects = λ p there. sound_object-later w.script l l' g p (object_at l'.objects p)
-          (at-append (λ n y. IsSoundObject w.script l (record { 0 = n }) y) l.objects x p.0 (omega arith) (λ b. s.objects p b) sound);
-      cells = all-map (IfThere (IsKnown l)) (IfThere (IsKnown l')) (there-map (IsKnown l) (IsKnown l') (known-later l l' g)) l.cells s.cells;
-      descriptions = all-map (IfThere (IsText l)) (IfThere (IsText l')) (there-map (IsText l) (IsText l') (text-later l l' g)) l.symbols s.descriptions;
-      texts = s.texts;
-      lengths = s.lengths;
-      symbols = s.symbols;
-      start = λ i. (
-        object-later l l' g (object_of i) (s.start i).0,
-        subst (λ (y : Object). IsStartKind i y.kind) (sym (get_or-append l.objects (x ∷ []) no_object (object_of i).0 (s.start i).0)) (s.start i).1,
-      );
-      chains = chains-new l l'
-          (λ o b. (ap link_of (get_or-append l.objects (x ∷ []) no_object o.0 b), link-known l (is_proxy (kind l o)) (proto l o) (s.objects o b).proto))
-          count
-          (λ o e. subst (λ (n : ℕ). IfThere (IsObject l) (link_of (get_or (l.objects ++ x ∷ []) n no_object))) (sym e)
-          (subst (λ (y : Object). IfThere (IsObject l) (link_of y)) (sym (at-end l.objects x no_object)) (link-known l (is_proxy x.kind) x.proto sound.proto)))
-          s.chains;
+      intact = record {
+        objects = λ p there. intact_object-later l l' g (object_at l'.objects p) (at-append (λ n y. IsIntactObject l y) l.objects x p.0 (omega arith) (λ b. i.objects p b) new);
+        cells = all-map (IfThere (IsKnown l)) (IfThere (IsKnown l')) (there-map (IsKnown l) (IsKnown l') (known-later l l' g)) l.cells i.cells;
+        descriptions = all-map (IfThere (IsText l)) (IfThere (IsText l')) (there-map (IsText l) (IsText l') (text-later l l' g)) l.symbols i.descriptions;
+        texts = i.texts;
+        lengths = i.lengths;
+        symbols = i.symbols;
+        start = λ k. start-later l l' g k (i.start k);
+        chains = chains-new l l'
+            (λ o b. (ap link_of (get_or-append l.objects (x ∷ []) no_object o.0 b), link-known l (is_proxy (kind l o)) (proto l o) (i.objects o b).proto))
+            count
+            (λ o e. subst (λ (n : ℕ). IfThere (IsObject l) (link_of (get_or (l.objects ++ x ∷ []) n no_object))) (sym e)
+            (subst (λ (y : Object). IfThere (IsObject l) (link_of y)) (sym (at-end l.objects x no_object)) (link-known l (is_proxy x.kind) x.proto new.proto)))
+            i.chains;
+      };
+      kinds = λ p there. right-later w.script l l' g p (kind l' p) (at-append (λ n y. IsRightKind w.script l (record { 0 = n }) y.kind) l.objects x p.0 (omega arith) (λ b. s.kinds p b) right);
     }
 
-pub sound-new : (w : World) (k : ObjectKind) (p : Option ObjectId) → IsSound w → IsKnownKind w.script w.lists (new_object w.lists) k → IfThere (IsObject w.lists) p →
+pub sound-new : (w : World) (k : ObjectKind) (p : Option ObjectId) → IsSound w → IsKnownKind w.lists k → IsRightKind w.script w.lists (new_object w.lists) k → IfThere (IsObject w.lists) p →
     IsSound (with_objects w (w.lists.objects ++ new_object_of k p ∷ []))
-sound-new w k p s h h' = sound-last w (new_object_of k p) s (new-sound w.script w.lists k p (is_proxy k) h h')
+sound-new w k p s h right h' = sound-last w (new_object_of k p) s (new-intact w.lists k p (is_proxy k) h h') (new-right w.script w.lists (new_object w.lists) k p (is_proxy k) right)
 
 -- ---- a new text
 

@@ -1,4 +1,4 @@
--- An object replaced by one of its kind and prototype, and a new object: what stays sound.
+-- An object replaced by another, and other lists than the objects: what stays sound.
 use Rattle.std.proofs.Common.{◌≡◌, ◌<◌, ℕ, zero, suc, cond, Option, Some, None, List, [], ◌∷◌, length, get_or, refl, sym, subst, ap, ◌∙◌, arith}
 use Rattle.std.specs.Prelude.{option_and_then}
 use Rattle.std.proofs.Math.ListN.{set}
@@ -6,15 +6,13 @@ use Rattle.std.proofs.lemmas.List.{length-set}
 use Rattle.std.specs.List.{AllByRecursion}
 use Rattle.property_keys.specs.declared.identifiers.ObjectId.{ObjectId}
 use Rattle.property_keys.specs.Texts.{HasOneEach}
-use Rattle.es_model.specs.declared.intrinsics.Intrinsic.{Intrinsic}
-use Rattle.es_model.specs.StartObjects.{object_of}
 use Rattle.es_model.specs.Objects.{Object, object_at, no_object, is_proxy}
-use Rattle.es_model.specs.World.{Lists, World}
+use Rattle.es_model.specs.World.{Lists, World, kind}
 use Rattle.es_model.specs.Changes.{with_object}
 use Rattle.es_model.specs.Grows.{Grows}
 use Rattle.es_model.specs.Known.{IsObject, IsText, IfThere, IsKnown}
-use Rattle.es_model.specs.Sound.{IsSoundObject, IsStartKind, IsShort, IsSound, link, up, NeverReturns}
-use Rattle.es_model.proofs.KnownLater.{all-map, there-map, known-later, text-later, object-later, sound_object-later}
+use Rattle.es_model.specs.Sound.{IsIntactObject, IsRightKind, IsShort, IsIntact, IsSound, link, up, NeverReturns}
+use Rattle.es_model.proofs.KnownLater.{all-map, there-map, known-later, text-later, intact_object-later, right-later, start-later}
 
 pub at-put : (P : ℕ → Object → Type 0) (os : List Object) (i j : ℕ) (x : Object) → (i < length os → P i x) → P j (get_or os j no_object) → P j (get_or (set os i x) j no_object)
 at-put P [] i j x h h' = h'
@@ -23,20 +21,16 @@ at-put P (y ∷ os) zero (suc j) x h h' = h'
 at-put P (y ∷ os) (suc i) zero x h h' = h'
 at-put P (y ∷ os) (suc i) (suc j) x h h' = at-put (λ n. P (suc n)) os i j x (λ b. h (omega arith)) h'
 
--- where an object stands for another, it is on the same chains and is a start object of the same kind
+-- the link of an object
 abbrev pub link_of : Object → Option ObjectId
 link_of x = cond (is_proxy x.kind) None x.proto
 
-pub record StandsAs (y x : Object) : Type 0 where
-  pub link : link_of x ≡ link_of y
-  pub start : (i : Intrinsic) → IsStartKind i y.kind → IsStartKind i x.kind
-
-as-put : (os : List Object) (i j : ℕ) (x : Object) → StandsAs (get_or os i no_object) x → StandsAs (get_or os j no_object) (get_or (set os i x) j no_object)
-as-put [] i j x h = record { link = refl; start = λ k s. s }
-as-put (y ∷ os) zero zero x h = h
-as-put (y ∷ os) zero (suc j) x h = record { link = refl; start = λ k s. s }
-as-put (y ∷ os) (suc i) zero x h = record { link = refl; start = λ k s. s }
-as-put (y ∷ os) (suc i) (suc j) x h = as-put os i j x h
+link-put : (os : List Object) (i j : ℕ) (x : Object) → link_of x ≡ link_of (get_or os i no_object) → link_of (get_or (set os i x) j no_object) ≡ link_of (get_or os j no_object)
+link-put [] i j x e = refl
+link-put (y ∷ os) zero zero x e = e
+link-put (y ∷ os) zero (suc j) x e = refl
+link-put (y ∷ os) (suc i) zero x e = refl
+link-put (y ∷ os) (suc i) (suc j) x e = link-put os i j x e
 
 and_then-same : (f g : ObjectId → Option ObjectId) → ((o : ObjectId) → f o ≡ g o) → (x : Option ObjectId) → option_and_then f x ≡ option_and_then g x
 and_then-same f g e None = refl
@@ -49,23 +43,30 @@ up-same l l' e (suc n) o = ap (option_and_then (up l' n)) (e o) ∙ and_then-sam
 pub chains-same : (l l' : Lists) → length l'.objects ≡ length l.objects → ((o : ObjectId) → link l' o ≡ link l o) → NeverReturns l → NeverReturns l'
 chains-same l l' k e h o n there back = h o n (omega arith) (sym (up-same l l' e (suc n) o) ∙ back)
 
--- an object is replaced by one that stands as it
-pub sound-put : (w : World) (o : ObjectId) (x : Object) → IsSound w → Grows w.lists (with_object w o x).lists → StandsAs (object_at w.lists.objects o) x →
-    (IsObject w.lists o → IsSoundObject w.script w.lists o x) → IsSound (with_object w o x)
-sound-put w o x s g like sound =
+-- an object is replaced by one with its link
+pub chains-put : (w : World) (o : ObjectId) (x : Object) → link_of x ≡ link_of (object_at w.lists.objects o) → NeverReturns w.lists → NeverReturns (with_object w o x).lists
+chains-put w o x e h = chains-same w.lists (with_object w o x).lists (length-set w.lists.objects o.0 x) (λ p. link-put w.lists.objects o.0 p.0 x e) h
+
+-- an object is replaced by one that fits in its place
+pub sound-put : (w : World) (o : ObjectId) (x : Object) → IsSound w → Grows w.lists (with_object w o x).lists → NeverReturns (with_object w o x).lists →
+    (IsObject w.lists o → IsIntactObject w.lists x × IsRightKind w.script w.lists o x.kind) → IsSound (with_object w o x)
+sound-put w o x s g chains fits =
     let l : Lists = w.lists in
     let l' : Lists = (with_object w o x).lists in
     let same : length l'.objects ≡ length l.objects = length-set l.objects o.0 x in
+    let i : IsIntact l = s.intact in
     record {
-      objects = λ p there. sound_object-later w.script l l' g p (object_at l'.objects p)
-          (at-put (λ n y. IsSoundObject w.script l (record { 0 = n }) y) l.objects o.0 p.0 x sound (s.objects p (omega arith)));
-      cells = all-map (IfThere (IsKnown l)) (IfThere (IsKnown l')) (there-map (IsKnown l) (IsKnown l') (known-later l l' g)) l.cells s.cells;
-      descriptions = all-map (IfThere (IsText l)) (IfThere (IsText l')) (there-map (IsText l) (IsText l') (text-later l l' g)) l.symbols s.descriptions;
-      texts = s.texts;
-      lengths = s.lengths;
-      symbols = s.symbols;
-      start = λ i. (object-later l l' g (object_of i) (s.start i).0, (as-put l.objects o.0 (object_of i).0 x like).start i (s.start i).1);
-      chains = chains-same l l' same (λ p. (as-put l.objects o.0 p.0 x like).link) s.chains;
+      intact = record {
+        objects = λ p there. intact_object-later l l' g (object_at l'.objects p) (at-put (λ n y. IsIntactObject l y) l.objects o.0 p.0 x (λ b. (fits b).0) (i.objects p (omega arith)));
+        cells = all-map (IfThere (IsKnown l)) (IfThere (IsKnown l')) (there-map (IsKnown l) (IsKnown l') (known-later l l' g)) l.cells i.cells;
+        descriptions = all-map (IfThere (IsText l)) (IfThere (IsText l')) (there-map (IsText l) (IsText l') (text-later l l' g)) l.symbols i.descriptions;
+        texts = i.texts;
+        lengths = i.lengths;
+        symbols = i.symbols;
+        start = λ k. start-later l l' g k (i.start k);
+        chains = chains;
+      };
+      kinds = λ p there. right-later w.script l l' g p (kind l' p) (at-put (λ n y. IsRightKind w.script l (record { 0 = n }) y.kind) l.objects o.0 p.0 x (λ b. (fits b).1) (s.kinds p (omega arith)));
     }
 
 -- ---- lists other than the objects
@@ -73,15 +74,21 @@ sound-put w o x s g like sound =
 pub sound-others : (w v : World) → IsSound w → Grows w.lists v.lists → v.script ≡ w.script → v.lists.objects ≡ w.lists.objects →
     AllByRecursion (IfThere (IsKnown v.lists)) v.lists.cells → AllByRecursion (IfThere (IsText v.lists)) v.lists.symbols → HasOneEach v.lists.texts → AllByRecursion IsShort v.lists.texts → IsSound v
 sound-others w v s g e os cells descriptions texts lengths =
+    let there-before : (p : ObjectId) → IsObject v.lists p → IsObject w.lists p = λ p there. subst (λ (xs : List Object). p.0 < length xs) os there in
+    let i : IsIntact w.lists = s.intact in
     record {
-      objects = λ p there. subst (λ script. IsSoundObject script v.lists p (object_at v.lists.objects p)) (sym e)
-          (subst (λ (xs : List Object). IsSoundObject w.script v.lists p (object_at xs p)) (sym os)
-          (sound_object-later w.script w.lists v.lists g p (object_at w.lists.objects p) (s.objects p (subst (λ (xs : List Object). p.0 < length xs) os there))));
-      cells = cells;
-      descriptions = descriptions;
-      texts = texts;
-      lengths = lengths;
-      symbols = let a = g.symbols in let b = s.symbols in omega arith;
-      start = λ i. (object-later w.lists v.lists g (object_of i) (s.start i).0, subst (λ (xs : List Object). IsStartKind i (object_at xs (object_of i)).kind) (sym os) (s.start i).1);
-      chains = chains-same w.lists v.lists (ap length os) (λ o. ap (λ (xs : List Object). link_of (object_at xs o)) os) s.chains;
+      intact = record {
+        objects = λ p there. subst (λ (xs : List Object). IsIntactObject v.lists (object_at xs p)) (sym os)
+            (intact_object-later w.lists v.lists g (object_at w.lists.objects p) (i.objects p (there-before p there)));
+        cells = cells;
+        descriptions = descriptions;
+        texts = texts;
+        lengths = lengths;
+        symbols = let a = g.symbols in let b = i.symbols in omega arith;
+        start = λ k. start-later w.lists v.lists g k (i.start k);
+        chains = chains-same w.lists v.lists (ap length os) (λ o. ap (λ (xs : List Object). link_of (object_at xs o)) os) i.chains;
+      };
+      kinds = λ p there. subst (λ script. IsRightKind script v.lists p (kind v.lists p)) (sym e)
+          (subst (λ (xs : List Object). IsRightKind w.script v.lists p (object_at xs p).kind) (sym os)
+          (right-later w.script w.lists v.lists g p (kind w.lists p) (s.kinds p (there-before p there))));
     }

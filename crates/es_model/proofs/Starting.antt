@@ -11,7 +11,7 @@ use Rattle.es_model.specs.World.{text_place}
 use Rattle.es_model.specs.StartObjects.{start_number}
 use Rattle.es_model.specs.StartTexts.{text_number, start_texts, units_of_start}
 use Rattle.es_model.specs.StartWorld.{start_lists, start_object}
-use Rattle.es_model.specs.StartLaws.{ObjectsAreInOrder, SymbolsAreInOrder, TextsDiffer, KeysDiffer, NamesAreThere}
+use Rattle.es_model.specs.StartLaws.{ObjectsAreInOrder, SymbolsAreInOrder, TextsAreInOrder}
 
 object-stands : (i : Intrinsic) → slice_get start_lists.objects (start_number i) ≡ Some (start_object i)
 object-stands intrinsic.Global = refl
@@ -111,38 +111,5 @@ text-found (text.Class (class.Error error.RangeError)) = refl
 text-found (text.Class (class.Error error.ReferenceError)) = refl
 text-found (text.Class (class.Error error.SyntaxError)) = refl
 
-pub texts-differ : TextsDiffer
-texts-differ = (refl, text-stands, text-found)
-
-pub keys-differ : KeysDiffer
-keys-differ intrinsic.Global = refl
-keys-differ (intrinsic.Constructor class.Object) = refl
-keys-differ (intrinsic.Prototype class.Object) = refl
-keys-differ (intrinsic.Constructor class.Function) = refl
-keys-differ (intrinsic.Prototype class.Function) = refl
-keys-differ (intrinsic.Constructor class.Array) = refl
-keys-differ (intrinsic.Prototype class.Array) = refl
-keys-differ (intrinsic.Constructor class.String) = refl
-keys-differ (intrinsic.Prototype class.String) = refl
-keys-differ (intrinsic.Constructor class.Number) = refl
-keys-differ (intrinsic.Prototype class.Number) = refl
-keys-differ (intrinsic.Constructor class.Boolean) = refl
-keys-differ (intrinsic.Prototype class.Boolean) = refl
-keys-differ (intrinsic.Constructor class.Symbol) = refl
-keys-differ (intrinsic.Prototype class.Symbol) = refl
-keys-differ (intrinsic.Constructor (class.Error error.Error)) = refl
-keys-differ (intrinsic.Prototype (class.Error error.Error)) = refl
-keys-differ (intrinsic.Constructor (class.Error error.TypeError)) = refl
-keys-differ (intrinsic.Prototype (class.Error error.TypeError)) = refl
-keys-differ (intrinsic.Constructor (class.Error error.RangeError)) = refl
-keys-differ (intrinsic.Prototype (class.Error error.RangeError)) = refl
-keys-differ (intrinsic.Constructor (class.Error error.ReferenceError)) = refl
-keys-differ (intrinsic.Prototype (class.Error error.ReferenceError)) = refl
-keys-differ (intrinsic.Constructor (class.Error error.SyntaxError)) = refl
-keys-differ (intrinsic.Prototype (class.Error error.SyntaxError)) = refl
-keys-differ intrinsic.Proxy = refl
-keys-differ intrinsic.ThrowTypeError = refl
-keys-differ intrinsic.Reflect = refl
-
-pub names-are-there : NamesAreThere
-names-are-there = (refl, refl)
+pub texts-are-in-order : TextsAreInOrder
+texts-are-in-order t = (text-stands t, text-found t)

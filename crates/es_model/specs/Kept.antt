@@ -1,4 +1,5 @@
--- Programs that keep worlds sound: at each question and at their end the world is sound, and what they ask and answer names what is there.
+-- Programs that keep worlds sound: at each question and at their end the world is sound, and what they ask and answer names what is there. At a halt the world is
+-- intact.
 use Rattle.std.specs.Prelude.{◌≡◌, ℕ}
 use Rattle.es_model.specs.declared.answers.Completion.{Completion}
 use Rattle.es_model.specs.World.{Lists, World}
@@ -7,7 +8,7 @@ use Rattle.es_model.specs.Program.{Program, done, look, change, charge, ask, par
 use Rattle.es_model.specs.Serve.{program_of}
 use Rattle.es_model.specs.Grows.{Grows}
 use Rattle.es_model.specs.Fits.{Fits, IsKnownRequest}
-use Rattle.es_model.specs.Sound.{IsSound}
+use Rattle.es_model.specs.Sound.{IsIntact, IsSound}
 
 -- a later world of the same run
 pub record IsLater (w v : World) : Type 0 where
@@ -20,26 +21,26 @@ IsKnownTask l (Of q) = IsKnownRequest l q
 abbrev pub FitsTask : Task → Lists → Completion → Type 0
 FitsTask (Of q) l c = Fits l q c
 
--- from this world on the program keeps worlds sound, and its end is as P says
+-- From this world on the program keeps worlds sound, and its end is as P says. At each charge it may halt.
 abbrev pub IsKept : (Lists → Completion → Type 0) → Program → World → Type 0
 IsKept P (done c) w = IsSound w × P w.lists c
 IsKept P (look f) w = IsKept P (f w.lists) w
 IsKept P (change op p) w = IsKept P p (changed op w)
-IsKept P (charge t p) w = IsKept P p (charged w t)
+IsKept P (charge t p) w = IsIntact w.lists × IsKept P p (charged w t)
 IsKept P (ask q k) w = IsSound w × IsKnownRequest w.lists q × ((c : Completion) (v : World) → IsSound v → IsLater w v → Fits v.lists q c → IsKept P (k c) v)
 IsKept P (part t k) w = IsSound w × IsKnownTask w.lists t × ((c : Completion) (v : World) → IsSound v → IsLater w v → FitsTask t v.lists c → IsKept P (k c) v)
 IsKept P (nest p q) w = IsKept P p w × IsKept P q w
 IsKept P (print bytes p) w = IsKept P p (printed_more w bytes)
 
--- an outcome from world w. A halt may stand between two changes that belong together
+-- An outcome from world w. A halt may stand between two changes that belong together, and leaves the world intact.
 abbrev pub IsKeptOutcome : (Lists → Completion → Type 0) → World → Outcome → Type 0
 IsKeptOutcome P w (Ended c v n) = IsSound v × IsLater w v × P v.lists c
-IsKeptOutcome P w (Halt v n) = IsLater w v
+IsKeptOutcome P w (Halt v n) = IsIntact v.lists × IsLater w v
 
--- every known task from a sound world ends in a sound world with an answer that fits
+-- every known task from a sound world ends in a sound world with an answer that fits, or halts in one that is intact
 abbrev pub KeepsSound : Server → Type 0
 KeepsSound S = (n : ℕ) (t : Task) (w : World) → IsSound w → IsKnownTask w.lists t → IsKeptOutcome (FitsTask t) w (S n t w)
 
--- the program of every known task keeps worlds sound: at each question the world is sound and the question known, and so at the end
+-- The program of every known task keeps worlds sound: at each question the world is sound and the question known, and so at the end; at each charge it is intact.
 abbrev pub KeepsEach : Type 0
 KeepsEach = (t : Task) (w : World) → IsSound w → IsKnownTask w.lists t → IsKept (FitsTask t) (program_of w.script t) w

@@ -1,3 +1,5 @@
+pub mod Belongs
+pub mod Builtins
 pub mod Changes
 pub mod Characters
 pub mod Composing

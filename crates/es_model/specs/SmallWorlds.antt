@@ -18,11 +18,12 @@ use Rattle.es_model.specs.declared.answers.Completion.TheVariants.{Normal, Throw
 use Rattle.es_model.specs.declared.answers.Reply.TheVariants as reply
 use Rattle.es_model.specs.declared.numbers.SiteId.{SiteId}
 use Rattle.es_model.specs.Events.{Event, OfError, Made, MadePrototype, Added, Stored, Redefined, GivenFunctions, Deleted, ProtoSet, Closed, IndexPut, IndexRemoved, Accessed, Walk, AtProperty, AtNull, Reads, Writes, IsSmall, IsOther, OfValue, OfFunctions}
-use Rattle.es_model.specs.Objects.{Object}
+use Rattle.es_model.specs.Objects.{Object, is_proxy}
 use Rattle.es_model.specs.World.{World}
 use Rattle.es_model.specs.Program.{Of, Ended, Halt, Server, run}
 use Rattle.es_model.specs.programs.Ordinary.{get_program, set_program}
 use Rattle.es_model.specs.Depth.{model}
+use Rattle.es_model.specs.Belongs.{FrameName, NamesObject, NamesKind, NamesValue, NamesKey, Belongs}
 
 -- ---- the parts of a small world
 
@@ -85,7 +86,7 @@ an_error up said name = record {
 -- an empty script, these objects and texts, so many turns and this trace
 abbrev pub world : List Object → List (List ℕ) → ℕ → List Event → World
 world objects texts turns trace = record {
-  script = record { nodes = []; functions = []; literals = []; sites = [] };
+  script = record { nodes = []; functions = []; literals = []; sites = []; top_names = 0 };
   lists = record { objects = objects; texts = texts; symbols = []; cells = [] };
   turns = turns;
   trace = trace;
@@ -559,3 +560,39 @@ CallOfProxy =
 -- Step 4.a of 10.1.7.1 at object 4 takes a turn and asks object 3, a Proxy, whose method is entered for another turn. It is not written yet: it throws undefined.
 abbrev pub HasEntersProxy : Type 0
 HasEntersProxy = answers (Has (at 4) (text 0)) (family 5) (Throw value.Undefined) (family 3) 1
+
+-- ---- frames that belong
+
+-- where [[Set]] waits for the own property of the receiver (10.1.9.2, step 2.c)
+pub record SetWaits : Type 0 where
+  pub key : PropKey
+  pub value : Value
+  pub receiver : ObjectId
+
+abbrev pub names_of_set : SetWaits → List FrameName
+names_of_set frame = NamesKey frame.key ∷ NamesValue frame.value ∷ NamesObject frame.receiver ∷ []
+
+-- where a method of a Proxy waits for its handler
+abbrev pub names_of_proxy : ObjectId → List FrameName
+names_of_proxy o = NamesKind o is_proxy ∷ []
+
+-- objects 0 and 1 are plain, object 2 is a Proxy of 0, and text 0 is the only one
+abbrev pub proxied : World
+proxied = world (plain None [] ∷ plain None [] ∷ a_proxy ∷ []) (codes "a" ∷ []) 5 []
+
+abbrev pub SetBelongs : Type 0
+SetBelongs = Belongs names_of_set proxied.lists (record { key = Index 3; value = value.Text (record { 0 = 0 }); receiver = at 1 })
+
+-- there is no object 3, and no text 1
+abbrev pub NoReceiver : Type 0
+NoReceiver = Belongs names_of_set proxied.lists (record { key = Index 3; value = value.Text (record { 0 = 0 }); receiver = at 3 }) → ⊥
+
+abbrev pub NoKey : Type 0
+NoKey = Belongs names_of_set proxied.lists (record { key = text 1; value = value.Text (record { 0 = 0 }); receiver = at 1 }) → ⊥
+
+abbrev pub ProxyBelongs : Type 0
+ProxyBelongs = Belongs names_of_proxy proxied.lists (at 2)
+
+-- object 1 is there, and is no Proxy
+abbrev pub PlainIsNoProxy : Type 0
+PlainIsNoProxy = Belongs names_of_proxy proxied.lists (at 1) → ⊥

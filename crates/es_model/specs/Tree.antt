@@ -24,16 +24,18 @@ use Rattle.es_model.specs.declared.facts.FunctionFacts.{FunctionFacts}
 use Rattle.es_model.specs.declared.facts.LiteralFacts.{LiteralFacts}
 use Rattle.es_model.specs.declared.facts.SiteFacts.{SiteFacts}
 
--- the nodes, functions, object literals and sites of a script, each named by its place
+-- The nodes, functions, object literals and sites of a script, each named by its place, and how many lexical names its top scope has: those of the `let` and `const`
+-- among the script's own statements.
 pub record Tree : Type 0 where
   pub nodes : List Node
   pub functions : List FunctionFacts
   pub literals : List LiteralFacts
   pub sites : List SiteFacts
+  pub top_names : ℕ
 
-abbrev pub tree_of : List Node → List FunctionFacts → List LiteralFacts → List SiteFacts → Tree
-tree_of all_nodes all_functions all_literals all_sites =
-    record { nodes = all_nodes; functions = all_functions; literals = all_literals; sites = all_sites }
+abbrev pub tree_of : List Node → List FunctionFacts → List LiteralFacts → List SiteFacts → ℕ → Tree
+tree_of all_nodes all_functions all_literals all_sites names =
+    record { nodes = all_nodes; functions = all_functions; literals = all_literals; sites = all_sites; top_names = names }
 
 abbrev pub optional : Option NodeId → List NodeId
 optional child = option_to_list child

@@ -12,6 +12,7 @@ pub struct Checked {
     functions: Vec<FunctionFacts>,
     literals: Vec<LiteralFacts>,
     sites: Vec<SiteFacts>,
+    top_names: u32,
 }
 
 impl Model for Checked {
@@ -19,9 +20,9 @@ impl Model for Checked {
 
     ghost Value = { Tree };
 
-    ghost view = { λ c. tree_of c.nodes.items c.functions.items c.literals.items c.sites.items };
+    ghost view = { λ c. tree_of c.nodes.items c.functions.items c.literals.items c.sites.items c.top_names };
 
-    ghost invariant = { λ c. IsTree (tree_of c.nodes.items c.functions.items c.literals.items c.sites.items) };
+    ghost invariant = { λ c. IsTree (tree_of c.nodes.items c.functions.items c.literals.items c.sites.items c.top_names) };
 }
 
 impl Checked {
@@ -51,6 +52,13 @@ impl Checked {
         ensures { result ≡ length self.now.sites }
     {
         self.sites.len() as u32
+    }
+
+    /// How many lexical names the script's top scope has, which are those of the `let` and `const` among the script's own statements (ECMA-262, 16.1.7).
+    pub fn top_names(&self) -> u32
+        ensures { result ≡ self.now.top_names }
+    {
+        self.top_names
     }
 
     /// The node with a known number.

@@ -44,8 +44,8 @@ pub use kinds::{CellNo, ErrorKind, ObjectKind};
 pub use laws::{gaps_are_longest, phases_are_in_order, punctuators_are_longest};
 pub use lists::{ArgumentCells, KeyList, Values};
 pub use model_laws::{
-    depth_is_free, model_serves, nothing_is_taken_away, outcomes_compose, rounds_suffice,
-    sound_worlds_are_kept, stages_lead_on, turns_never_rise,
+    depth_is_free, frames_go_on_belonging, model_serves, nothing_is_taken_away, outcomes_compose,
+    rounds_suffice, sound_worlds_are_kept, stages_lead_on, turns_never_rise,
 };
 pub use names::{Binding, Named, Target};
 pub use node::Node;
@@ -54,13 +54,13 @@ pub use owned::OwnProperty;
 pub use primaries::{Key, Primary, Property};
 pub use requests::{Operation, Request};
 pub use small_worlds::{
-    accesses_are_noted, calls_throw, define_notes_changes, delete_takes_out, get_goes_up_the_chain,
-    has_halts_in_the_chain, indices_have_their_events, keys_stand_in_order, objects_are_closed,
-    prototypes_are_set, receivers_are_handed_on, set_puts, set_refuses,
+    accesses_are_noted, calls_throw, define_notes_changes, delete_takes_out, frames_belong,
+    get_goes_up_the_chain, has_halts_in_the_chain, indices_have_their_events, keys_stand_in_order,
+    objects_are_closed, prototypes_are_set, receivers_are_handed_on, set_puts, set_refuses,
 };
 pub use start_laws::{
-    start_keys_differ, start_names_are_there, start_objects_are_in_order,
-    start_symbols_are_in_order, start_texts_differ,
+    start_objects_are_in_order, start_symbols_are_in_order, start_texts_are_in_order,
+    start_world_is_sound,
 };
 pub use start_objects::start_intrinsic;
 pub use start_texts::{StartText, WellKnown, start_text};

@@ -2,6 +2,7 @@
 
 ghost use Rattle.std.specs.Prelude.{◌≡◌, ℕ};
 ghost use Rattle.es_model.specs.declared.answers.Completion.{Completion};
+ghost use Rattle.es_model.specs.Belongs.{ChangesKeepNames, KeepsNames, NamesStay};
 ghost use Rattle.es_model.specs.Composing.{ComposesAfter, EndsAfter};
 ghost use Rattle.es_model.specs.Depth.{IsDepthFree, IsServer, NeverRaises, model};
 ghost use Rattle.es_model.specs.Grows.{KeepsLists, KeepsPrinted, KeepsScript};
@@ -32,10 +33,19 @@ pub fn nothing_is_taken_away()
 {}
 
 /// In a sound world a task whose names are all there keeps worlds sound: the world is sound at each request that it makes, with all that the request names there,
-/// and at its end, with an answer of the request's kind whose names are there.
+/// and at its end, with an answer of the request's kind whose names are there. At each charge and at a halt all that the world names is there, and no chain of
+/// prototypes comes back to an object without passing a Proxy.
 pub fn sound_worlds_are_kept()
     ensures each { KeepsEach }
     ensures ends { KeepsSound model }
+{}
+
+/// All that a frame keeps goes on being there, each object with its kind: in every later world, after each change, and after each task. So a frame that belongs to
+/// a world belongs to every later one.
+pub fn frames_go_on_belonging()
+    ensures later { NamesStay }
+    ensures change { ChangesKeepNames }
+    ensures task { KeepsNames model }
 {}
 
 /// In a sound world `[[SetPrototypeOf]]` has rounds enough for every chain of prototypes.

@@ -1,6 +1,6 @@
 //! Worked examples of the model. Each function here only names what requests come to in small worlds.
 
-ghost use Rattle.es_model.specs.SmallWorlds.{CallEnters, CallHalts, CallOfObject, CallOfProxy, CallOfUndefined, CallTooDeep, ConstructOfFunction, CycleHalts, CycleRefused, CycleThroughProxy, DefineAdds, DefineAddsEmpty, DefineGetter, DefineGetterOverFixed, DefineHides, DefineKeeps, DefineKeepsFixed, DefineNoGetter, DefineNothing, DefineOnClosed, DefineOverFixed, DefineOverGetter, DefineShowsFixed, DeleteAbsent, DeleteFixed, DeleteOpen, GetCallsGetter, GetGoesUp, GetHaltsAtGetter, GetHandsReceiver, GetOfNothing, GetWithoutGetter, GetterHasReceiver, HasEntersProxy, HasGoesUp, HasHalts, HasNot, ImmutableRefused, ImmutableSame, IndexIsPut, IndexIsRemoved, IsClosed, IsOpen, KeysInOrder, NullIsSet, OtherOnClosed, PreventAgain, PreventCloses, ReadForOther, ReadIsNoted, ReadOfIndex, SameOnClosed, SameOnOpen, SelfRefused, SetAdds, SetCallsSetter, SetHandsReceiver, SetOnClosed, SetOnNoObject, SetOverFunctions, SetOverReadOnly, SetReadOnly, SetReplaces, SetWithoutSetter, SetterHasValue, SetterReturns, WholeChainIsSet, WriteIsNoted};
+ghost use Rattle.es_model.specs.SmallWorlds.{CallEnters, CallHalts, CallOfObject, CallOfProxy, CallOfUndefined, CallTooDeep, ConstructOfFunction, CycleHalts, CycleRefused, CycleThroughProxy, DefineAdds, DefineAddsEmpty, DefineGetter, DefineGetterOverFixed, DefineHides, DefineKeeps, DefineKeepsFixed, DefineNoGetter, DefineNothing, DefineOnClosed, DefineOverFixed, DefineOverGetter, DefineShowsFixed, DeleteAbsent, DeleteFixed, DeleteOpen, GetCallsGetter, GetGoesUp, GetHaltsAtGetter, GetHandsReceiver, GetOfNothing, GetWithoutGetter, GetterHasReceiver, HasEntersProxy, HasGoesUp, HasHalts, HasNot, ImmutableRefused, ImmutableSame, IndexIsPut, IndexIsRemoved, IsClosed, IsOpen, KeysInOrder, NoKey, NoReceiver, NullIsSet, OtherOnClosed, PlainIsNoProxy, PreventAgain, PreventCloses, ProxyBelongs, ReadForOther, ReadIsNoted, ReadOfIndex, SameOnClosed, SameOnOpen, SelfRefused, SetAdds, SetBelongs, SetCallsSetter, SetHandsReceiver, SetOnClosed, SetOnNoObject, SetOverFunctions, SetOverReadOnly, SetReadOnly, SetReplaces, SetWithoutSetter, SetterHasValue, SetterReturns, WholeChainIsSet, WriteIsNoted};
 
 /// `[[Get]]` goes up the prototypes to a value, a getter or nothing.
 #[tactic(auto, unfolding(crate::specs::Depth::model, crate::specs::Changes::charged))]
@@ -133,4 +133,13 @@ pub fn calls_throw()
     ensures call_too_deep { CallTooDeep }
     ensures call_halts { CallHalts }
     ensures call_of_proxy { CallOfProxy }
+{}
+
+/// A frame belongs where all that it keeps is there, each object with the kind that its algorithm has found, and nowhere else.
+pub fn frames_belong()
+    ensures set_belongs { SetBelongs }
+    ensures no_receiver { NoReceiver }
+    ensures no_key { NoKey }
+    ensures proxy_belongs { ProxyBelongs }
+    ensures plain_is_no_proxy { PlainIsNoProxy }
 {}

@@ -1,11 +1,10 @@
 //! Laws over the world in which a run begins. Each function here only names a law.
 
 ghost use Rattle.es_model.specs.StartLaws.{
-  KeysDiffer,
-  NamesAreThere,
   ObjectsAreInOrder,
+  StartIsSound,
   SymbolsAreInOrder,
-  TextsDiffer,
+  TextsAreInOrder,
 };
 
 /// Each start object stands at its number, and there are no others.
@@ -18,17 +17,12 @@ pub fn start_symbols_are_in_order()
     ensures { SymbolsAreInOrder }
 {}
 
-/// No start text stands twice, and each is found at its number.
-pub fn start_texts_differ()
-    ensures { TextsDiffer }
+/// Each start text stands at its number, and is found there.
+pub fn start_texts_are_in_order()
+    ensures { TextsAreInOrder }
 {}
 
-/// No start object has a key twice.
-pub fn start_keys_differ()
-    ensures { KeysDiffer }
-{}
-
-/// Each object, text and Symbol that is named at the start is there.
-pub fn start_names_are_there()
-    ensures { NamesAreThere }
+/// Whatever the script and the turns, the world in which a run begins is sound.
+pub fn start_world_is_sound()
+    ensures { StartIsSound }
 {}
