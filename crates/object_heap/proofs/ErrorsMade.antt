@@ -80,8 +80,8 @@ error-goes old new kind text table is w h =
     let at : seen_at mid.objects e ≡ s = at-end old.objects s e.0 n in
     let none : find_seen (seen_at mid.objects e) message_key ≡ None = ap (λ x. find_seen x message_key) at ∙ find-new kind_of.Error (error_proto kind) message_key in
     let same : new ≡ record mid { objects = put_seen mid.objects e (seen_added (seen_at mid.objects e) message_key c) } =
-        is ∙ ap (λ ss. record old { objects = ss }) (sym (ap (λ x. put_seen mid.objects e (seen_added x message_key c)) at ∙ set-end old.objects s (seen_added s message_key c) e.0 n)) in
+    is ∙ ap (λ ss. record old { objects = ss }) (sym (ap (λ x. put_seen mid.objects e (seen_added x message_key c)) at ∙ set-end old.objects s (seen_added s message_key c) e.0 n)) in
     let more = goes-added mid new e message_key c none same (error_put w kind) put.stands in
     let key : error_made w kind text ≡ added (error_put w kind) e message_key c =
-        ap (λ k. changed (Defining e (Name k) (hidden (value.Text text))) (error_put w kind)) (name-is old w table h) ∙ defined-is mid (error_put w kind) e text kind put.stands at in
+    ap (λ k. changed (Defining e (Name k) (hidden (value.Text text))) (error_put w kind)) (name-is old w table h) ∙ defined-is mid (error_put w kind) e text kind put.stands at in
     subst (λ v. Goes old new w v) (sym key) (goes_then old mid new w (error_put w kind) (added (error_put w kind) e message_key c) (goes_then old old mid w (name_known w) (error_put w kind) named put) more)

@@ -1,9 +1,11 @@
+pub mod Ascending
 pub mod Change
 pub mod ErrorsMade
 pub mod KeyLists
 pub mod KeyPlaces
 pub mod OriginNumbers
 pub mod PropertyLists
+pub mod Refusals
 pub mod Retaining
 pub mod SeenFacts
 pub mod Standing

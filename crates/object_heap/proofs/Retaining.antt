@@ -30,14 +30,16 @@ retains_none heap = retained heap heap (record { objects = omega arith; kinds = 
 
 pub retains_then : (a b c : HeapView) → Retains a b → Retains b c → Retains a c
 unfolding KeepsAll
-retains_then a b c r s = let p = r.all in let q = s.all in record { all = record {
-  objects = let x = p.objects in let y = q.objects in omega arith;
-  kinds = λ o h. q.kinds o (let x = p.objects in omega arith) ∙ p.kinds o h;
-  texts = λ i x h. q.texts i x (p.texts i x h);
-  symbols = λ i x h. q.symbols i x (p.symbols i x h);
-  cells = let x = p.cells in let y = q.cells in omega arith;
-  origins = λ i x h. q.origins i x (p.origins i x h);
-} }
+retains_then a b c r s = let p = r.all in let q = s.all in record {
+  all = record {
+    objects = let x = p.objects in let y = q.objects in omega arith;
+    kinds = λ o h. q.kinds o (let x = p.objects in omega arith) ∙ p.kinds o h;
+    texts = λ i x h. q.texts i x (p.texts i x h);
+    symbols = λ i x h. q.symbols i x (p.symbols i x h);
+    cells = let x = p.cells in let y = q.cells in omega arith;
+    origins = λ i x h. q.origins i x (p.origins i x h);
+  };
+}
 
 pub retains-same : (old new : HeapView) → new ≡ old → Retains old new
 retains-same old new e = subst (λ h. Retains old h) (sym e) (retains_none old)

@@ -28,13 +28,13 @@ one-more ts text none one i j bi bj e =
     let n : length (ts ++ text ∷ []) ≡ length ts + 1 = length-append ts (text ∷ []) in
     elim (cases_lt i (length ts)) [
       | inl a ↦ elim (cases_lt j (length ts)) [
-          | inl b ↦ one i j a b (sym (get_or-append ts (text ∷ []) [] i a) ∙ e ∙ get_or-append ts (text ∷ []) [] j b)
-          | inr b ↦ absurd (fresh ts text i none a (sym (get_or-append ts (text ∷ []) [] i a) ∙ e ∙ at-end ts text j (omega arith)))
-        ]
+        | inl b ↦ one i j a b (sym (get_or-append ts (text ∷ []) [] i a) ∙ e ∙ get_or-append ts (text ∷ []) [] j b)
+        | inr b ↦ absurd (fresh ts text i none a (sym (get_or-append ts (text ∷ []) [] i a) ∙ e ∙ at-end ts text j (omega arith)))
+      ]
       | inr a ↦ elim (cases_lt j (length ts)) [
-          | inl b ↦ absurd (fresh ts text j none b (sym (get_or-append ts (text ∷ []) [] j b) ∙ sym e ∙ at-end ts text i (omega arith)))
-          | inr b ↦ omega arith
-        ]
+        | inl b ↦ absurd (fresh ts text j none b (sym (get_or-append ts (text ∷ []) [] j b) ∙ sym e ∙ at-end ts text i (omega arith)))
+        | inr b ↦ omega arith
+      ]
     ]
 
 one-step : (known : Bool) (ts : List (List ℕ)) (text : List ℕ) → list_any (bytes_eq text) ts ≡ known → HasOneEach ts → HasOneEach (cond known ts (ts ++ text ∷ []))

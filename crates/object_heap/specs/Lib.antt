@@ -1,6 +1,7 @@
 pub mod Codes
 pub mod Errors
 pub mod Keys
+pub mod Laws
 pub mod Origins
 pub mod Places
 pub mod Retains

@@ -53,12 +53,12 @@ impl Heap {
     pub fn make<L: Ledger>(
         &mut self,
         kind: ObjectKind,
-        _origin: OriginId,
+        origin: OriginId,
         proto: Option<ObjectId>,
         _steps: &mut Steps<L>,
     ) -> Result<ObjectId, NoMemory>
         ensures object { IfOk result (λ object. (w : World) → StandsFor self.old w → object ≡ new_object w.lists) }
-        ensures ok { OnOk result ((w : World) → StandsFor self.old w → Goes self.old self.new w (changed (Making kind (origin_in w.script (origin_at self.old _origin)) proto) w)) }
+        ensures ok { OnOk result ((w : World) → StandsFor self.old w → Goes self.old self.new w (changed (Making kind (origin_in w.script (origin_at self.old origin)) proto) w)) }
         ensures err { OnErr result (Keeps self.old self.new) }
         ensures retains { Retains self.old self.new }
     {

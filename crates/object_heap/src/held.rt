@@ -161,7 +161,9 @@ impl Held {
         ensures { self.new ≡ record self.old { kind = revoked_kind (self.old).kind } }
     {
         if let ObjectKind::Proxy {
-            target, handler, ..
+            target,
+            handler,
+            ..
         } = &mut self.kind
         {
             *target = None;

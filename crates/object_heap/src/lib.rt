@@ -7,6 +7,7 @@ mod creation;
 mod errors;
 mod heap;
 mod held;
+mod laws;
 mod listing;
 mod objects;
 mod origins;
@@ -15,3 +16,7 @@ mod property_list;
 mod starting;
 
 pub use heap::Heap;
+pub use laws::{
+    heaps_follow_in_turn, heaps_retain_in_turn, indices_ascend, refusals_change_nothing,
+    stops_are_turns,
+};

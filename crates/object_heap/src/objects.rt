@@ -6,8 +6,8 @@ ghost use Rattle.object_heap.specs.Keys.{seen_keys};
 ghost use Rattle.object_heap.specs.Seen.{find_seen, no_seen, put_seen, seen, seen_added, seen_at, seen_removed, seen_replaced};
 
 use crate::held::{Held, is_proxy};
-use descriptors::Complete;
 use crate::listing::keys_of;
+use descriptors::Complete;
 use es_model::{KeyList, ObjectKind, start_intrinsic};
 use property_keys::{NoMemory, ObjectId, PropKey};
 use std::alloc::Global;

@@ -13,4 +13,4 @@ returns g c =
     let o = c.args.object in
     let e = ap (λ n. seen_keys n (seen_at c.self.inside.objects o)) c.code_units-count.ensures ∙ ap (λ (v : HeapView). seen_keys (units_in (c.args.self.now).texts (seen_at (c.args.self.now).objects o).kind) (seen_at v.objects o)) c.self.view_is in
     IfOk-weaker c.keys.result (λ keys. keys ≡ seen_keys c.code_units-count.result (seen_at c.self.inside.objects o)) (λ keys. (w : World) → StandsFor c.args.self.now w → keys ≡ own_keys w.lists o)
-        (λ keys p w h. p ∙ e ∙ keys-stand _ w o h) c.keys.ensures
+    (λ keys p w h. p ∙ e ∙ keys-stand _ w o h) c.keys.ensures

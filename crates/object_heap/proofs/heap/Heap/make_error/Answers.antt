@@ -20,7 +20,7 @@ pub returns-clause-ok : goal.returns-clause-ok
 returns-clause-ok g c =
     let e = c.in_ok-error.ensures.ok ∙ (λ t. c.self.inside.objects ++ seen_added (seen (new_object_of Error (Some (c.object-parent.ensures t)))) (Name (c.number.ensures t)) (message_of c.args.text) ∷ []) in
     error-goes c.args.self.now _ c.args.kind c.args.text (subst (λ (v : HeapView). IsTable v.texts) c.self.view_is c.self.invariant)
-        (by_objects (λ ss. ss ++ seen_added (new_error c.args.kind) message_key (message_of c.args.text) ∷ []) c.self.view_is e)
+    (by_objects (λ ss. ss ++ seen_added (new_error c.args.kind) message_key (message_of c.args.text) ∷ []) c.self.view_is e)
 
 pub returns-clause-retains : goal.returns-clause-retains
 returns-clause-retains g c =
