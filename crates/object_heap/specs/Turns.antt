@@ -79,8 +79,8 @@ IsKnownSite script (Read o k receiver (Some site)) = site.0 < length script.site
 IsKnownSite script (Write o k v receiver (Some site)) = site.0 < length script.sites
 IsKnownSite script other = ⊤
 
--- at an Ask the frame belongs to the world, and the site of the request is there
-abbrev pub KeepsNamed : {F : Type 0} → (F → List FrameName) → World → Result (Turn F) Stop → Type 0
+-- At an Ask the frame belongs to the world, and the site of the request is there. Opaque: what frames pass on of one another's calls they do not look into
+unfoldable pub KeepsNamed : {F : Type 0} → (F → List FrameName) → World → Result (Turn F) Stop → Type 0
 KeepsNamed names_of v (Ok (Ask q f)) = Belongs names_of v.lists f × IsKnownSite v.script q
 KeepsNamed names_of v (Ok (Done c)) = ⊤
 KeepsNamed names_of v (Err stop) = ⊤
