@@ -44,8 +44,8 @@ proxy_round-kept (suc left) w o v None s e = (s.intact, proxy_is_set-kept (charg
 proxy_round-kept (suc left) w o v (Some p) s e = (
   s.intact,
   kept-if (FitsTask (Of (SetProto o v))) (charged w 1) (same_object p o) _ _ (sound-charged w 1 s, (tt, tt))
-  (kept-if (FitsTask (Of (SetProto o v))) (charged w 1) (is_proxy (kind w.lists p)) (proto_is_set o v) (set_proto_round left o v (proto w.lists p))
-  (proxy_is_set-kept (charged w 1) o v (sound-charged w 1 s) e) (proxy_round-kept left (charged w 1) o v (proto w.lists p) (sound-charged w 1 s) e)),
+      (kept-if (FitsTask (Of (SetProto o v))) (charged w 1) (is_proxy (kind w.lists p)) (proto_is_set o v) (set_proto_round left o v (proto w.lists p))
+      (proxy_is_set-kept (charged w 1) o v (sound-charged w 1 s) e) (proxy_round-kept left (charged w 1) o v (proto w.lists p) (sound-charged w 1 s) e)),
 )
 
 proxy_proto-kept : (w : World) (o : ObjectId) (v : Option ObjectId) → IsSound w → is_proxy (kind w.lists o) ≡ true → KeepsFor (SetProto o v) (set_proto_program o v) w

@@ -10,6 +10,6 @@ program_after ParentHas c = done c
 program_after ParentGet c = done c
 program_after GetterCalled c = done c
 program_after ParentSet c = done c
-program_after (ReceiverHad k v receiver) c = set_had k v receiver c
+program_after (ReceiverHad s) c = set_had s.key s.value s.receiver c
 program_after ReceiverDefined c = done c
 program_after SetterCalled c = set_called c

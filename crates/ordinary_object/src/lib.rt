@@ -6,12 +6,21 @@ mod frame;
 mod getting;
 mod properties;
 mod prototypes;
+mod receivers;
 mod rounds;
 mod setting;
 mod turns;
 
-pub use frame::OrdinaryFrame;
+pub use frame::{OrdinaryFrame, Setting};
 pub use turns::{resume, start};
 
 #[cfg(test)]
-mod tests;
+mod fixtures;
+#[cfg(test)]
+mod get_tests;
+#[cfg(test)]
+mod property_tests;
+#[cfg(test)]
+mod proto_tests;
+#[cfg(test)]
+mod set_tests;

@@ -11,12 +11,13 @@ ghost use Rattle.object_heap.specs.Turns.{IsTurn, KeepsFor, KeepsNamed, StaysSou
 ghost use Rattle.ordinary_object.specs.Names.{names_of};
 ghost use Rattle.ordinary_object.specs.Rests.{program_after};
 
+use crate::OrdinaryFrame;
 use crate::extensions::{extensible, prevent};
 use crate::getting::{get, has};
 use crate::properties::{define, delete, get_own, keys};
 use crate::prototypes::{get_proto, set_proto};
-use crate::setting::{set, set_called, set_had};
-use crate::OrdinaryFrame;
+use crate::receivers::set_had;
+use crate::setting::{set, set_called};
 use es_model::{Completion, Request, Stop, Turn};
 use object_heap::Heap;
 use property_keys::{Ledger, Steps, Value};
@@ -124,10 +125,6 @@ fn next_turn<L: Ledger>(
         | OrdinaryFrame::ParentSet
         | OrdinaryFrame::ReceiverDefined => Ok(Turn::Done(answer)),
         OrdinaryFrame::SetterCalled => set_called(heap, answer),
-        OrdinaryFrame::ReceiverHad {
-            key,
-            value,
-            receiver,
-        } => set_had(heap, key, value, receiver, answer),
+        OrdinaryFrame::ReceiverHad(setting) => set_had(heap, setting, answer),
     }
 }

@@ -23,9 +23,11 @@ returns-then-left-eq0-clause-stops g c = λ w h.
     (on _ _ _ w v c.loop-stop.left _ _ _ _ _ _ go e (c.in-Ok-On.is ∙ ap (λ x. Ok x) c.in-Ok-On.field-0-is) (c.set_proto_round.ensures.round c.loop-stop.left v go.stands))
 
 pub loop-stop-preserved : goal.loop-stop-preserved
-loop-stop-preserved g c = (λ w h.
-    let (v, go, e) = c.loop-stop.invariant.0 w h in
-    let more : c.loop-stop.left ≡ suc (c.loop-stop.left - 1) = grind (arith, nat_tests, c.if-left-eq0.false) in
-    one_less _ _ w _ c.loop-stop.left _ _ _ more
-    (on _ _ _ w v c.loop-stop.left _ _ _ _ _ _ go e (c.in-Ok-On.is ∙ ap (λ x. Ok x) c.in-Ok-On.field-0-is) (c.set_proto_round.ensures.round c.loop-stop.left v go.stands)),
-    retains_then _ _ _ c.loop-stop.invariant.1 c.set_proto_round.ensures.retains)
+loop-stop-preserved g c = (
+  λ w h.
+      let (v, go, e) = c.loop-stop.invariant.0 w h in
+      let more : c.loop-stop.left ≡ suc (c.loop-stop.left - 1) = grind (arith, nat_tests, c.if-left-eq0.false) in
+      one_less _ _ w _ c.loop-stop.left _ _ _ more
+      (on _ _ _ w v c.loop-stop.left _ _ _ _ _ _ go e (c.in-Ok-On.is ∙ ap (λ x. Ok x) c.in-Ok-On.field-0-is) (c.set_proto_round.ensures.round c.loop-stop.left v go.stands)),
+  retains_then _ _ _ c.loop-stop.invariant.1 c.set_proto_round.ensures.retains,
+)
