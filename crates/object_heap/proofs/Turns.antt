@@ -77,10 +77,29 @@ leads-on rest old new w S n stage r s =
     at_stop rest old new w (λ t x. LeadsOn rest (world_at t) S n (outcome_at S n t) x) (λ c v g. refl)
     (λ q f v g. (refl, has-more (S n (Of q) v) (λ c u. run S (rest f c) n u))) (λ v g. refl) (λ t. tt) stage r s
 
+later-cond : (w : World) (b : Bool) (s : Stage) → IsLater w (world_at s) → IsLater w (world_at (cond b s (AtHalt w)))
+later-cond w true s h = h
+later-cond w false s h = later_none w
+
+-- the world in which a program stops is a later one
+pub later_stage : (p : Program) (w : World) → IsLater w (world_after p w)
+later_stage (done c) w = later_none w
+later_stage (look f) w = later_stage (f w.lists) w
+later_stage (change op p) w =
+    later_then w (changed op w) (world_after p (changed op w)) (record { lists = grows-changed op w; script = (leaves-changed op w).script }) (later_stage p (changed op w))
+later_stage (charge t p) w =
+    later-cond w (nat_le t w.turns) (stage_of p (charged w t))
+    (later_then w (charged w t) (world_after p (charged w t)) (record { lists = grows-charged w t; script = charged-script w t }) (later_stage p (charged w t)))
+later_stage (ask q k) w = later_none w
+later_stage (part t k) w = later_none w
+later_stage (nest p q) w = later_none w
+later_stage (print bytes p) w = later_none w
+
 pub turn_of : {F : Type 0} (rest : F → Completion → Program) (old new : HeapView) (p : Program) (w : World) (r : Result (Turn F) Stop) →
     Stops rest old new w (stage_of p w) r → IsTurn rest old new p w r
 turn_of rest old new p w r s = record {
   goes = goes-to rest old new w (stage_of p w) r s;
+  later = later_stage p w;
   leads = λ S n. subst (λ o. LeadsOn rest (world_after p w) S n o r) (sym (outcome-stage S n p w)) (leads-on rest old new w S n (stage_of p w) r s);
 }
 
@@ -116,24 +135,6 @@ sound_of rest old new started p w r s h =
     (λ c v g k. k) (λ q f v g k. k) (λ v g k. k) (λ t k. tt) (stage_of p w) r s (kept_stage (FitsTask (Of started)) p w h)
 
 -- ---- what a frame keeps
-
-later-cond : (w : World) (b : Bool) (s : Stage) → IsLater w (world_at s) → IsLater w (world_at (cond b s (AtHalt w)))
-later-cond w true s h = h
-later-cond w false s h = later_none w
-
--- the world in which a program stops is a later one
-pub later_stage : (p : Program) (w : World) → IsLater w (world_after p w)
-later_stage (done c) w = later_none w
-later_stage (look f) w = later_stage (f w.lists) w
-later_stage (change op p) w =
-    later_then w (changed op w) (world_after p (changed op w)) (record { lists = grows-changed op w; script = (leaves-changed op w).script }) (later_stage p (changed op w))
-later_stage (charge t p) w =
-    later-cond w (nat_le t w.turns) (stage_of p (charged w t))
-    (later_then w (charged w t) (world_after p (charged w t)) (record { lists = grows-charged w t; script = charged-script w t }) (later_stage p (charged w t)))
-later_stage (ask q k) w = later_none w
-later_stage (part t k) w = later_none w
-later_stage (nest p q) w = later_none w
-later_stage (print bytes p) w = later_none w
 
 pub named_ask : {F : Type 0} (names_of : F → List FrameName) (w : World) (q : Request) (f : F) → Belongs names_of w.lists f → IsKnownSite w.script q → KeepsNamed names_of w (Ok (Ask q f))
 unfolding KeepsNamed

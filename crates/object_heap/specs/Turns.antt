@@ -1,6 +1,6 @@
 -- What the call of a frame comes to. It begins in a world, with a program: that of the request, or the rest of an algorithm. All that is said below is said of the
 -- one world in which that program stops by itself.
-use Rattle.std.specs.Prelude.{◌≡◌, ◌+◌, ◌<◌, ⊤, ℕ, List, Option, Some, None, Result, Ok, Err, length}
+use Rattle.std.specs.Prelude.{◌≡◌, ◌+◌, ◌<◌, ⊤, ℕ, List, Some, Result, Ok, Err, length}
 use Rattle.es_model.specs.declared.answers.Completion.{Completion}
 use Rattle.es_model.specs.declared.answers.Stop.{Stop}
 use Rattle.es_model.specs.declared.answers.Stop.TheVariants.{Halted, NoMemory}
@@ -50,9 +50,11 @@ LeadsOn rest v S n o (Ok (Ask q f)) =
 LeadsOn rest v S n o (Err Halted) = o ≡ Halt v 0
 LeadsOn rest v S n o (Err NoMemory) = Unit {0}
 
--- the turn of a program, whoever answers and however many calls are running, with what the heap does
+-- The turn of a program, whoever answers and however many calls are running, with what the heap does. The world in which it stops is a later one of the same run,
+-- so what was there is there.
 pub record IsTurn {F : Type 0} (rest : F → Completion → Program) (old new : HeapView) (p : Program) (w : World) (result : Result (Turn F) Stop) : Type 0 where
   pub goes : GoesTo old new w (world_after p w) result
+  pub later : IsLater w (world_after p w)
   pub leads : (S : Server) (n : ℕ) → LeadsOn rest (world_after p w) S n (run S p n w) result
 
 -- ---- soundness
