@@ -15,12 +15,6 @@ pub use frame::{OrdinaryFrame, Setting};
 pub use turns::{resume, start};
 
 #[cfg(test)]
-mod fixtures;
+mod tests;
 #[cfg(test)]
-mod get_tests;
-#[cfg(test)]
-mod property_tests;
-#[cfg(test)]
-mod proto_tests;
-#[cfg(test)]
-mod set_tests;
+mod trial;

@@ -48,11 +48,11 @@ pub fn start<L: Ledger>(
 /// Halted comes exactly where a charge does not fit.
 #[tactic(auto, using(object_heap::proofs::Turns::turn_of, object_heap::proofs::Turns::sound_of, object_heap::proofs::Turns::named_of))]
 pub fn resume<L: Ledger>(
-    alloc: Global,
+    _alloc: Global,
     heap: &mut Heap,
     frame: OrdinaryFrame,
     answer: Completion,
-    steps: &mut Steps<L>,
+    _steps: &mut Steps<L>,
 ) -> Result<Turn<OrdinaryFrame>, Stop>
     ensures stops { (w : World) → StandsFor heap.old w → Stops program_after heap.old heap.new w (stage_of (program_after frame answer) w) result }
     ensures turn { (w : World) → StandsFor heap.old w → IsTurn program_after heap.old heap.new (program_after frame answer) w result }
@@ -60,7 +60,7 @@ pub fn resume<L: Ledger>(
     ensures belongs { (w : World) → StandsFor heap.old w → KeepsNamed names_of (world_after (program_after frame answer) w) result }
     ensures retains { Retains heap.old heap.new }
 {
-    next_turn(alloc, heap, frame, answer, steps)
+    next_turn(heap, frame, answer)
 }
 
 fn first_turn<L: Ledger>(
@@ -107,12 +107,10 @@ fn first_turn<L: Ledger>(
     }
 }
 
-fn next_turn<L: Ledger>(
-    _alloc: Global,
+fn next_turn(
     heap: &mut Heap,
     frame: OrdinaryFrame,
     answer: Completion,
-    _steps: &mut Steps<L>,
 ) -> Result<Turn<OrdinaryFrame>, Stop>
     ensures stops { (w : World) → StandsFor heap.old w → Stops program_after heap.old heap.new w (stage_of (program_after frame answer) w) result }
     ensures named { (w : World) → KeepsNamed names_of w result }

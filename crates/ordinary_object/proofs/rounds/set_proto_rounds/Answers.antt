@@ -1,6 +1,5 @@
-use Rattle.std.proofs.Common.{rules, ◌≡◌, ℕ, suc, ◌-◌, Ok, ap, ◌∙◌, arith}
+use Rattle.std.proofs.Common.{◌≡◌, suc, ◌-◌, Ok, ap, ◌∙◌, arith}
 use Rattle.std.proofs.lemmas.Bool.Decides.{nat_tests}
-use Rattle.es_model.specs.World.{World}
 use Rattle.object_heap.proofs.Retaining.{retains_then}
 use Rattle.ordinary_object.proofs.Walks.{falls, over, on, ends, one_less}
 use Rattle.ordinary_object.proofs.rounds.set_proto_rounds.Goals as goal

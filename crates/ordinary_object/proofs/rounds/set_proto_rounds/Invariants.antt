@@ -1,4 +1,4 @@
-use Rattle.std.proofs.Common.{◌≡◌, ℕ, suc, length}
+use Rattle.std.proofs.Common.{◌≡◌, suc, length}
 use Rattle.es_model.specs.World.{World}
 use Rattle.es_model.specs.Stages.{stage_of}
 use Rattle.es_model.specs.programs.Ordinary.{set_proto_round}
