@@ -12,4 +12,5 @@ pub mod Standing
 pub mod StartLists
 pub mod TextCalls
 pub mod TextNumbers
+pub mod Turns
 pub mod Views

@@ -9,3 +9,4 @@ pub mod Seen
 pub mod Stands
 pub mod Stops
 pub mod Tables
+pub mod Turns
