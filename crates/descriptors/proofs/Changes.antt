@@ -80,18 +80,6 @@ pick-keep true refused same property h k = refl
 pick-keep false false true property h k = refl
 pick-keep empty refused same property h k = cc
 
-pick-apply : (empty refused same : Bool) (property : Complete) → (empty ≡ true → same ≡ true) → refused ≡ false → same ≡ false
-    → pick empty refused same property ≡ verdict.Apply property
-pick-apply false false false property e h k = refl
-pick-apply true refused false property e h k = let same_is = e refl in cc
-pick-apply empty refused same property e h k = cc
-
-pick-refuse : (empty refused same : Bool) (property : Complete) → (empty ≡ true → same ≡ true) → (same ≡ true → refused ≡ false) → refused ≡ true
-    → pick empty refused same property ≡ verdict.Refuse
-pick-refuse false true same property e f h = refl
-pick-refuse true true same property e f h = let none = f (e refl) in cc
-pick-refuse empty false same property e f h = cc
-
 same_kept : (empty refused same : Bool) (property : Complete) → (empty ≡ true → same ≡ true) → pick empty refused same property ≡ verdict.Keep
     → same ≡ true
 same_kept true refused same property e h = e refl
@@ -117,16 +105,6 @@ applies_from wanted current property h =
 pub keep_from : (wanted : Descriptor) (current : Complete) → changes_nothing wanted current ≡ true → change_of wanted current ≡ verdict.Keep
 keep_from wanted current h = pick-keep (is_without_fields wanted) _ _ (applied wanted current) (is_refused-stands wanted current h) h
 
-pub apply_from : (wanted : Descriptor) (current : Complete) → is_refused wanted current ≡ false → changes_nothing wanted current ≡ false
-    → change_of wanted current ≡ verdict.Apply (applied wanted current)
-apply_from wanted current allowed h =
-    pick-apply (is_without_fields wanted) _ _ (applied wanted current) (changes_nothing-without_fields wanted current) allowed h
-
-pub refuse_from : (wanted : Descriptor) (current : Complete) → is_refused wanted current ≡ true → change_of wanted current ≡ verdict.Refuse
-refuse_from wanted current h =
-    pick-refuse (is_without_fields wanted) _ _ (applied wanted current)
-    (changes_nothing-without_fields wanted current) (is_refused-stands wanted current) h
-
 pub kept_same : (wanted : Descriptor) (current : Complete) → change_of wanted current ≡ verdict.Keep → changes_nothing wanted current ≡ true
 kept_same wanted current h =
     same_kept (is_without_fields wanted) (is_refused wanted current) (changes_nothing wanted current) (applied wanted current)
@@ -137,15 +115,6 @@ kept_same wanted current h =
 pub keep_from_same : (wanted : Descriptor) (current : Complete) → is_sound wanted ≡ true → applied wanted current ≡ current
     → change_of wanted current ≡ verdict.Keep
 keep_from_same wanted current sound h = keep_from wanted current (changes_nothing-applied wanted current sound h)
-
-not_same : (same : Bool) → (same ≡ true → ⊥) → same ≡ false
-not_same false h = refl
-not_same true h = absurd (h refl)
-
-pub apply_from_other : (wanted : Descriptor) (current : Complete) → is_refused wanted current ≡ false → applied wanted current ≢ current
-    → change_of wanted current ≡ verdict.Apply (applied wanted current)
-apply_from_other wanted current allowed h =
-    apply_from wanted current allowed (not_same (changes_nothing wanted current) (λ same. h (applied-stands wanted current same)))
 
 -- ---- the laws
 

@@ -32,6 +32,13 @@ impl Symbols {
         }
     }
 
+    /// How many Symbols there are.
+    pub fn len(&self) -> usize
+        ensures { result ≡ length self.now }
+    {
+        self.descriptions.len()
+    }
+
     /// A new Symbol. There is room for 2^32 - 1, and past them the answer is `NoMemory`.
     pub fn make(&mut self, description: Option<TextId>) -> Result<SymbolId, NoMemory>
         ensures { MakesSymbol self.old self.new description result }
