@@ -1,6 +1,6 @@
 -- What a change of a heap makes of the worlds that it stands for. Nothing here knows how objects are kept.
-use Rattle.std.proofs.Common.{◌≡◌, ℕ, ◌-◌, Bool, true, false, Option, Some, None, Result, Ok, Err, OnErr, List, [], ◌∷◌, ◌++◌, length, map, refl, ap, sym, ◌∙◌, subst, cond, append_assoc}
-use Rattle.std.specs.Prelude.{IsSome, nat_lt, not, slice_set}
+use Rattle.std.proofs.Common.{◌≡◌, ℕ, ◌-◌, true, false, Option, Some, None, Result, Ok, Err, OnErr, List, [], ◌∷◌, ◌++◌, map, refl, ap, sym, ◌∙◌, subst, cond, append_assoc}
+use Rattle.std.specs.Prelude.{IsSome, slice_set}
 use Rattle.std.proofs.Math.ListN.{set}
 use Rattle.std.proofs.lemmas.List.{map-set, map-append, append-nil}
 use Rattle.property_keys.specs.declared.identifiers.ObjectId.{ObjectId}
@@ -13,15 +13,15 @@ use Rattle.es_model.specs.declared.kinds.CellNo.{CellNo}
 use Rattle.es_model.specs.declared.kinds.ObjectKind.{ObjectKind}
 use Rattle.es_model.specs.Objects.{Object, object_at, with_properties, add_property, replace_property, remove_property, new_object_of, is_proxy, revoked_kind, unmapped_kind}
 use Rattle.es_model.specs.Events.{Event, Origin, Closed, Made, MadePrototype, ProtoSet, put_event, removal_event}
-use Rattle.es_model.specs.World.{World, new_object, proto, kind}
-use Rattle.es_model.specs.Changes.{Change, Interning, MakingCell, MakingSymbol, SettingCell, Revoking, Unmapping, Preventing, SettingProto, added, replaced, removed, with_proto, closed, with_kind, made, prototype_noted, noted, with_object, with_objects, same_proto, text_known, symbol_made, cell_made, cell_set, construction_noted, charged, changed}
+use Rattle.es_model.specs.World.{World, new_object, kind}
+use Rattle.es_model.specs.Changes.{Interning, MakingCell, MakingSymbol, SettingCell, Revoking, Unmapping, added, replaced, removed, with_proto, closed, with_kind, made, prototype_noted, noted, with_object, with_objects, text_known, symbol_made, cell_made, cell_set, construction_noted, charged, changed}
 use Rattle.object_heap.specs.Seen.{Seen, seen, seen_at, put_seen, find_seen, seen_added, seen_replaced, seen_removed}
 use Rattle.slack_tracking.specs.declared.OriginKind.{OriginKind}
 use Rattle.slack_tracking.specs.declared.OriginKind.TheVariants as origin
 use Rattle.object_heap.specs.Origins.{constructed_by}
-use Rattle.object_heap.specs.Stands.{HeapView, Beside, beside, beside_world, StandsFor, HasObjects, HasRest, Goes, Trails, Keeps, goes_none}
+use Rattle.object_heap.specs.Stands.{HeapView, Beside, beside, beside_world, StandsFor, HasObjects, HasRest, Goes, Trails, Keeps}
 use Rattle.object_heap.proofs.SeenFacts.{seen-added, seen-replaced, seen-removed}
-use Rattle.object_heap.proofs.Standing.{seen-stands, own-stands, count-stands, kind-stands, proto-stands, extensible-stands}
+use Rattle.object_heap.proofs.Standing.{seen-stands, own-stands}
 
 -- Nothing is kept of a heap yet, so a heap follows every other.
 trails : (old new : HeapView) (before : List Event) (es : List Event) → Trails old new before (before ++ es)

@@ -1,5 +1,5 @@
 -- A new error object with its message is what the changes of the model come to, since the name of the message is known to every heap.
-use Rattle.std.proofs.Common.{◌≡◌, ℕ, zero, suc, arith, Bool, true, false, Option, Some, None, List, [], ◌∷◌, ◌++◌, length, get_or, refl, ap, sym, ◌∙◌, subst}
+use Rattle.std.proofs.Common.{◌≡◌, ℕ, zero, suc, arith, true, false, None, List, [], ◌∷◌, ◌++◌, length, get_or, refl, ap, sym, ◌∙◌, subst}
 use Rattle.std.specs.Prelude.{codes}
 use Rattle.std.proofs.Math.ListN.{set}
 use Rattle.property_keys.specs.declared.identifiers.ObjectId.{ObjectId}
@@ -16,8 +16,8 @@ use Rattle.es_model.specs.declared.start_texts.StartText.TheVariants as text
 use Rattle.es_model.specs.StartTexts.{text_of}
 use Rattle.es_model.specs.Objects.{new_object_of}
 use Rattle.es_model.specs.Events.{OfError}
-use Rattle.es_model.specs.World.{World, new_object, number_of, text_place, own, extensible}
-use Rattle.es_model.specs.Changes.{Defining, Interning, Making, changed, made, text_known, added, applied, defined}
+use Rattle.es_model.specs.World.{World, number_of, text_place, own, extensible}
+use Rattle.es_model.specs.Changes.{Defining, Making, changed, text_known, added, applied}
 use Rattle.es_model.specs.programs.Errors.{error_proto, hidden}
 use Rattle.object_heap.specs.Seen.{Seen, seen, seen_at, put_seen, seen_added, find_seen, no_seen}
 use Rattle.object_heap.specs.Stands.{HeapView, StandsFor, Goes, goes_then}

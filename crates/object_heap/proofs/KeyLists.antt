@@ -1,7 +1,7 @@
 -- The parts of the list of own keys.
-use Rattle.std.proofs.Common.{◌≡◌, ℕ, zero, suc, Bool, true, false, cond, List, [], ◌∷◌, ◌++◌, length, map, take, refl, ap, sym, ◌∙◌, arith, ◌+◌}
+use Rattle.std.proofs.Common.{◌≡◌, ℕ, zero, suc, List, [], ◌∷◌, ◌++◌, length, map, refl, ap, sym, ◌∙◌, arith, ◌+◌}
 use Rattle.std.proofs.Math.Numerals.{add-one}
-use Rattle.std.specs.Prelude.{filter, nat_lt}
+use Rattle.std.specs.Prelude.{filter}
 use Rattle.std.specs.Ordering.{nat_cmp}
 use Rattle.std.specs.BTreeSet.{insert_key}
 use Rattle.std.specs.FinMap as map_of
@@ -21,7 +21,7 @@ use Rattle.object_heap.specs.Stands.{HeapView, StandsFor}
 use Rattle.object_heap.proofs.Standing.{seen-stands, texts-stand}
 use Rattle.es_model.specs.OwnKeys.{own_keys, code_units, put_index, put_key, indices_in, with_indices_below, is_name, is_symbol, keys_in}
 use Rattle.object_heap.specs.Keys.{listed_keys, seen_keys, units_in}
-use Rattle.object_heap.specs.Seen.{Seen, seen, seen_at, named, indexed, is_named, with_index}
+use Rattle.object_heap.specs.Seen.{Seen, seen, seen_at, named, indexed, with_index}
 
 pub insert_key-is : (is : List ℕ) (i : ℕ) → insert_key nat_cmp is i ≡ put_index i is
 insert_key-is [] i = refl

@@ -1,14 +1,14 @@
 -- What is refused changes nothing.
-use Rattle.std.proofs.Common.{◌≡◌, Bool, true, false, cond, Option, Some, None, refl}
+use Rattle.std.proofs.Common.{◌≡◌, true, false, Option, Some, None, refl}
 use Rattle.property_keys.specs.declared.identifiers.ObjectId.{ObjectId}
 use Rattle.property_keys.specs.declared.keys.PropKey.{PropKey}
 use Rattle.descriptors.specs.declared.fields.Descriptor.{Descriptor}
 use Rattle.descriptors.specs.declared.property.Complete.{Complete}
 use Rattle.descriptors.specs.declared.validation.Verdict.{Verdict}
 use Rattle.descriptors.specs.declared.validation.Verdict.TheVariants as verdict
-use Rattle.descriptors.specs.Validation.{is_allowed, is_configurable}
+use Rattle.descriptors.specs.Validation.{is_allowed}
 use Rattle.es_model.specs.World.{World, own, definition, allows, deletes, can_delete}
-use Rattle.es_model.specs.Changes.{Defining, Deleting, changed, applied, deleted_at, removed}
+use Rattle.es_model.specs.Changes.{Defining, Deleting, changed, applied, deleted_at}
 
 applied-refused : (w : World) (o : ObjectId) (k : PropKey) (now : Option Complete) (v : Verdict) → is_allowed v ≡ false → applied w o k now v ≡ w
 applied-refused w o k now verdict.Refuse e = refl

@@ -1,11 +1,9 @@
 -- What a heap that stands for a world has of it.
-use Rattle.std.proofs.Common.{◌≡◌, ◌≢◌, ℕ, ◌≤◌, ◌-◌, Bool, true, false, Option, Some, None, Result, Ok, Err, OnErr, OnOk, List, [], ◌∷◌, length, get_or, map, arith, refl, ap, sym, ◌∙◌, cond, subst}
-use Rattle.std.specs.Prelude.{IsSome}
+use Rattle.std.proofs.Common.{◌≡◌, true, false, Option, None, [], length, map, refl, ap, ◌∙◌, cond}
 use Rattle.std.proofs.Math.ListN.{get_or-map}
 use Rattle.std.proofs.lemmas.List.{length-map}
 use Rattle.property_keys.specs.declared.identifiers.ObjectId.{ObjectId}
 use Rattle.property_keys.specs.declared.keys.PropKey.{PropKey}
-use Rattle.descriptors.specs.declared.property.Complete.{Complete}
 use Rattle.es_model.specs.declared.kinds.ObjectKind.{ObjectKind}
 use Rattle.es_model.specs.Objects.{Object, no_object, object_at, new_object_of, is_proxy, find_property}
 use Rattle.es_model.specs.World.{World, own, proto, kind, extensible}

@@ -1,7 +1,7 @@
 -- What a call that gives a text a number makes of the worlds that a heap stands for.
-use Rattle.std.proofs.Common.{◌≡◌, ◌<◌, ◌+◌, ◌++◌, ℕ, List, length, ap, sym, ◌∙◌}
+use Rattle.std.proofs.Common.{◌≡◌, ◌<◌, ℕ, List, length, ap, ◌∙◌}
 use Rattle.property_keys.specs.declared.identifiers.TextId.{TextId}
-use Rattle.property_keys.specs.Texts.{HasNumber, text_at}
+use Rattle.property_keys.specs.Texts.{text_at}
 use Rattle.es_model.specs.World.{World, number_of, units_of}
 use Rattle.es_model.specs.Changes.{Interning, changed}
 use Rattle.object_heap.specs.Stands.{HeapView, StandsFor, Goes}

@@ -1,9 +1,8 @@
 -- The own keys of what is seen of an object, and the parts of them (ECMA-262, 10.1.11.1, 10.4.3.3).
-use Rattle.std.specs.Prelude.{ℕ, Bool, List, ◌++◌, length, map, filter}
+use Rattle.std.specs.Prelude.{ℕ, List, ◌++◌, length, map, filter}
 use Rattle.std.specs.FinMap as map_of
-use Rattle.property_keys.specs.declared.identifiers.TextId.{TextId}
 use Rattle.property_keys.specs.declared.keys.PropKey.{PropKey}
-use Rattle.property_keys.specs.declared.keys.PropKey.TheVariants.{Index, Name, Sym}
+use Rattle.property_keys.specs.declared.keys.PropKey.TheVariants.{Index}
 use Rattle.property_keys.specs.Texts.{text_at}
 use Rattle.es_model.specs.declared.kinds.ObjectKind.{ObjectKind}
 use Rattle.es_model.specs.declared.kinds.ObjectKind.TheVariants as kind_of

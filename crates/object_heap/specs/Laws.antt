@@ -1,5 +1,5 @@
 -- Laws over the relation between heaps and worlds, and over the changes that calls of the heap make.
-use Rattle.std.specs.Prelude.{◌≡◌, ◌<◌, ◌++◌, ℕ, Bool, true, false, List, [], ◌∷◌, ◌&&◌, nat_lt, Result}
+use Rattle.std.specs.Prelude.{◌≡◌, ◌++◌, ℕ, Bool, true, false, List, [], ◌∷◌, ◌&&◌, nat_lt, Result}
 use Rattle.property_keys.specs.declared.identifiers.ObjectId.{ObjectId}
 use Rattle.property_keys.specs.declared.keys.PropKey.{PropKey}
 use Rattle.descriptors.specs.declared.fields.Descriptor.{Descriptor}

@@ -1,5 +1,5 @@
 -- The origins of a heap: for each number what makes its objects, and what that is in a script.
-use Rattle.std.specs.Prelude.{ℕ, suc, Bool, true, false, ◌&&◌, if◌then◌else◌, List, [], ◌∷◌, ◌++◌, length, nat_eq, slice_index_or}
+use Rattle.std.specs.Prelude.{ℕ, suc, Bool, true, false, ◌&&◌, if◌then◌else◌, List, [], ◌∷◌, nat_eq, slice_index_or}
 use Rattle.map_store.specs.declared.OriginId.{OriginId}
 use Rattle.slack_tracking.specs.declared.LiteralPlace.{LiteralPlace}
 use Rattle.slack_tracking.specs.declared.OriginKind.{OriginKind}
@@ -7,7 +7,7 @@ use Rattle.slack_tracking.specs.declared.OriginKind.TheVariants as origin
 use Rattle.es_model.specs.declared.facts.FunctionFacts.{FunctionFacts}
 use Rattle.es_model.specs.declared.facts.LiteralFacts.{LiteralFacts}
 use Rattle.es_model.specs.Tree.{Tree}
-use Rattle.es_model.specs.Events.{Origin, OfPlain, OfFunction, OfArray, OfArguments, OfWrapper, OfError, OfLiteral, OfConstructor, Constructed}
+use Rattle.es_model.specs.Events.{Origin, OfPlain, OfFunction, OfArray, OfArguments, OfWrapper, OfError, OfLiteral, OfConstructor}
 use Rattle.es_model.specs.World.{World}
 use Rattle.es_model.specs.Changes.{Constructing, changed}
 use Rattle.object_heap.specs.Stands.{HeapView}

@@ -4,7 +4,7 @@ use Rattle.property_keys.specs.declared.identifiers.ObjectId.{ObjectId}
 use Rattle.property_keys.specs.declared.identifiers.TextId.{TextId}
 use Rattle.slack_tracking.specs.declared.OriginKind.{OriginKind}
 use Rattle.es_model.specs.Grows.{fixed_kind}
-use Rattle.object_heap.specs.Seen.{Seen, seen_at}
+use Rattle.object_heap.specs.Seen.{seen_at}
 use Rattle.object_heap.specs.Stands.{HeapView}
 
 -- Objects stay, each of its kind apart from the inner slots that may change; and so do texts, Symbols, cells and origins.

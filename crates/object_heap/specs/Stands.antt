@@ -1,5 +1,5 @@
 -- Which worlds a heap stands for, and what it means that a call leads from one heap to the next.
-use Rattle.std.specs.Prelude.{◌≡◌, ℕ, List, [], ◌++◌, length, map, Option}
+use Rattle.std.specs.Prelude.{◌≡◌, ℕ, List, [], ◌++◌, map, Option}
 use Rattle.std.proofs.Common.{sym, ap, ◌∙◌, append_assoc}
 use Rattle.std.proofs.lemmas.List.{append-nil}
 use Rattle.property_keys.specs.declared.identifiers.TextId.{TextId}

@@ -29,9 +29,7 @@ impl Heap {
     pub fn constructed(&mut self, origin: OriginId)
         ensures goes { (w : World) → StandsFor self.old w → Goes self.old self.new w (constructed_by w (origin_at self.old origin)) }
         ensures retains { Retains self.old self.new }
-    {
-        let _ = self.origins.kind(origin);
-    }
+    {}
 
     /// A new object, for each origin that its event may name.
     pub(crate) fn put(

@@ -20,3 +20,6 @@ pub use laws::{
     heaps_follow_in_turn, heaps_retain_in_turn, indices_ascend, refusals_change_nothing,
     stops_are_turns,
 };
+
+#[cfg(test)]
+mod tests;

@@ -1,5 +1,4 @@
-ghost use Rattle.std.specs.Prelude.{◌≡◌, ◌↔◌, [], slice_index_or, IfOk, IsTrue, OnErr, OnOk};
-ghost use Rattle.slack_tracking.specs.declared.OriginKind.TheVariants as origin;
+ghost use Rattle.std.specs.Prelude.{◌≡◌, ◌↔◌, [], IfOk, IsTrue, OnErr, OnOk};
 ghost use Rattle.object_heap.specs.Origins.{origin_place, same_origin, same_place, with_origin};
 
 use map_store::OriginId;
@@ -48,16 +47,6 @@ impl Origins {
         match self.kinds.push(kind) {
             Ok(()) => Ok(OriginId(place as u32)),
             Err(_) => Err(NoMemory),
-        }
-    }
-
-    /// The kind of a number. At a number that was not given out it is `Plain`.
-    pub(crate) fn kind(&self, id: OriginId) -> OriginKind
-        ensures { result ≡ slice_index_or self.now id.0 origin.Plain }
-    {
-        match self.kinds.get(id.0 as usize) {
-            Some(kind) => *kind,
-            None => OriginKind::Plain,
         }
     }
 }

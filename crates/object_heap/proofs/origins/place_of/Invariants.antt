@@ -1,4 +1,4 @@
-use Rattle.std.proofs.Common.{length, ◌-◌, ◌+◌, ◌≡◌, ◌≤◌, ℕ}
+use Rattle.std.proofs.Common.{length, ◌-◌, ◌+◌, ◌≡◌, ◌≤◌}
 use Rattle.std.proofs.Common.{drop}
 use Rattle.object_heap.specs.Origins.{origin_place}
 use Rattle.object_heap.proofs.origins.place_of.Given as goal

@@ -1,8 +1,8 @@
-use Rattle.std.proofs.Common.{◌≡◌, ◌+◌, ◌≤◌, ◌<◌, arith, ap, sym, ◌∙◌, drop, length}
+use Rattle.std.proofs.Common.{◌+◌, ◌<◌, arith, ap, sym, ◌∙◌}
 use Rattle.std.proofs.lemmas.Option.{slice_get_within}
 use Rattle.property_keys.specs.Texts.{interned}
 use Rattle.es_model.specs.StartTexts.{all_start_texts}
-use Rattle.object_heap.proofs.StartLists.{interned_all, start-text, nothing-left}
+use Rattle.object_heap.proofs.StartLists.{start-text, nothing-left}
 use Rattle.object_heap.proofs.starting.start_texts.Goals as goal
 
 pub loop-text-preserved : goal.loop-text-preserved

@@ -1,5 +1,5 @@
-use Rattle.std.proofs.Common.{◌≡◌, ◌≤◌, ◌-◌, drop, length}
-use Rattle.es_model.specs.StartTexts.{all_start_texts, start_texts}
+use Rattle.std.proofs.Common.{◌≡◌, ◌≤◌, ◌-◌, drop}
+use Rattle.es_model.specs.StartTexts.{start_texts}
 use Rattle.object_heap.proofs.StartLists.{interned_all}
 use Rattle.object_heap.proofs.starting.start_texts.Given as goal
 

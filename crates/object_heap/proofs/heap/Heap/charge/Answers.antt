@@ -1,4 +1,4 @@
-use Rattle.std.proofs.Common.{◌-◌, ◌∙◌, ap, arith, refl, sym}
+use Rattle.std.proofs.Common.{◌-◌, ◌∙◌, ap, arith, refl}
 use Rattle.std.proofs.lemmas.Bool.Decides.{nat_tests}
 use Rattle.object_heap.specs.Stands.{HeapView, beside}
 use Rattle.object_heap.proofs.Standing.{turns-stand}

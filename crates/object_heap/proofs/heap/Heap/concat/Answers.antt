@@ -1,10 +1,7 @@
-use Rattle.std.proofs.Common.{◌++◌, ◌≡◌, ◌<◌, ◌+◌, ◌^◌, ◌↔◌, ℕ, List, length, ap, sym, ◌∙◌, subst}
-use Rattle.std.specs.Prelude.{IsErrOf}
-use Rattle.property_keys.specs.declared.faults.KeyFault.TheVariants.{TooLong}
+use Rattle.std.proofs.Common.{◌++◌, ap, ◌∙◌}
 use Rattle.property_keys.specs.Texts.{interned, text_at}
-use Rattle.es_model.specs.Changes.{Interning, changed}
 use Rattle.es_model.specs.World.{number_of}
-use Rattle.object_heap.specs.Stands.{HeapView, Goes}
+use Rattle.object_heap.specs.Stands.{HeapView}
 use Rattle.object_heap.proofs.Standing.{texts-stand}
 use Rattle.object_heap.proofs.Change.{goes-interned}
 use Rattle.object_heap.proofs.Retaining.{retains-interned, retains-same}

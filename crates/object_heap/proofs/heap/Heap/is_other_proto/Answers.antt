@@ -1,8 +1,8 @@
-use Rattle.std.proofs.Common.{◌&&◌, ℕ, ap, length, ◌∙◌}
+use Rattle.std.proofs.Common.{◌&&◌, ap, length, ◌∙◌}
 use Rattle.std.specs.Prelude.{nat_lt, not}
 use Rattle.es_model.specs.Changes.{same_proto}
 use Rattle.es_model.specs.Objects.{is_proxy}
-use Rattle.object_heap.specs.Seen.{Seen, seen_at}
+use Rattle.object_heap.specs.Seen.{seen_at}
 use Rattle.object_heap.specs.Stands.{HeapView}
 use Rattle.object_heap.proofs.Standing.{seen-stands, count-stands}
 use Rattle.object_heap.proofs.heap.Heap.is_other_proto.Goals as goal

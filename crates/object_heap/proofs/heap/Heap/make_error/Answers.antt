@@ -1,4 +1,4 @@
-use Rattle.std.proofs.Common.{◌++◌, ◌∷◌, [], Some, ap, sym, ◌∙◌, length, subst}
+use Rattle.std.proofs.Common.{◌++◌, ◌∷◌, [], Some, ap, ◌∙◌, length, subst}
 use Rattle.property_keys.specs.declared.keys.PropKey.TheVariants.{Name}
 use Rattle.es_model.specs.declared.kinds.ObjectKind.TheVariants.{Error}
 use Rattle.es_model.specs.Objects.{new_object_of}

@@ -1,4 +1,3 @@
-use Rattle.std.proofs.Common.{sym}
 use Rattle.es_model.specs.StartWorld.{start_world}
 use Rattle.object_heap.proofs.Standing.{stand}
 use Rattle.object_heap.proofs.StartLists.{start-table}

@@ -1,4 +1,4 @@
-use Rattle.std.proofs.Common.{ap, ◌∙◌, sym}
+use Rattle.std.proofs.Common.{ap, ◌∙◌}
 use Rattle.object_heap.specs.Origins.{origin_place, with_origin}
 use Rattle.object_heap.specs.Stands.{HeapView, beside}
 use Rattle.object_heap.proofs.Change.{goes-same}

@@ -1,4 +1,3 @@
-use Rattle.std.proofs.Common.{refl}
 use Rattle.object_heap.specs.Seen.{put_seen, seen_at}
 use Rattle.object_heap.proofs.Change.{goes-unmapped}
 use Rattle.object_heap.proofs.Retaining.{retains-put}

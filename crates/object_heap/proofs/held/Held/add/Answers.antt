@@ -1,6 +1,6 @@
 use Rattle.std.proofs.Common.{ap, sym, ◌∙◌}
 use Rattle.es_model.specs.Objects.{Object, with_properties}
-use Rattle.object_heap.specs.Seen.{Seen, seen, find_seen, seen_added}
+use Rattle.object_heap.specs.Seen.{seen, find_seen, seen_added}
 use Rattle.object_heap.proofs.SeenFacts.{find-seen, seen-added}
 use Rattle.object_heap.proofs.held.Held.add.Goals.{in-Ok, in-Err}
 use Rattle.object_heap.proofs.held.Held.add.Goals as goal

@@ -1,6 +1,5 @@
-use Rattle.std.proofs.Common.{◌≡◌, ◌∙◌, ap, subst, List}
+use Rattle.std.proofs.Common.{◌≡◌, ◌∙◌, ap}
 use Rattle.std.proofs.lemmas.Result.{IfOk-weaker}
-use Rattle.property_keys.specs.declared.keys.PropKey.{PropKey}
 use Rattle.es_model.specs.Objects.{Object}
 use Rattle.object_heap.specs.Keys.{listed_keys, seen_keys}
 use Rattle.object_heap.proofs.KeyLists.{listed-seen}

@@ -2,9 +2,9 @@ use Rattle.std.proofs.Common.{Some, ap, sym, ◌∙◌}
 use Rattle.std.proofs.lemmas.List.{get_or_read}
 use Rattle.es_model.specs.declared.owned.OwnProperty.{OwnProperty}
 use Rattle.object_heap.specs.Places.{IsPlace, no_property}
-use Rattle.es_model.specs.Objects.{Object, with_properties}
-use Rattle.object_heap.specs.Seen.{Seen, seen, find_seen, seen_added, seen_replaced, seen_removed}
-use Rattle.object_heap.proofs.SeenFacts.{find-seen, seen-added, seen-replaced, seen-removed}
+use Rattle.es_model.specs.Objects.{Object}
+use Rattle.object_heap.specs.Seen.{find_seen}
+use Rattle.object_heap.proofs.SeenFacts.{find-seen}
 use Rattle.object_heap.proofs.KeyPlaces.{find-place}
 use Rattle.object_heap.proofs.held.Held.own.Goals as goal
 

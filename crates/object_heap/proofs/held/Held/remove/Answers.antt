@@ -1,7 +1,7 @@
 use Rattle.std.proofs.Common.{ap, ◌∙◌}
 use Rattle.es_model.specs.Objects.{Object, with_properties}
-use Rattle.object_heap.specs.Seen.{Seen, seen, find_seen, seen_added, seen_replaced, seen_removed}
-use Rattle.object_heap.proofs.SeenFacts.{find-seen, seen-added, seen-replaced, seen-removed}
+use Rattle.object_heap.specs.Seen.{seen, seen_removed}
+use Rattle.object_heap.proofs.SeenFacts.{seen-removed}
 use Rattle.object_heap.proofs.held.Held.remove.Goals as goal
 
 pub returns : goal.returns

@@ -6,7 +6,7 @@ use Rattle.descriptors.specs.declared.property.Complete.{Complete}
 use Rattle.es_model.specs.declared.owned.OwnProperty.{OwnProperty}
 use Rattle.object_heap.specs.Places.{IsPlace, no_property}
 use Rattle.es_model.specs.Objects.{Object, with_properties}
-use Rattle.object_heap.specs.Seen.{Seen, seen, find_seen, seen_replaced}
+use Rattle.object_heap.specs.Seen.{seen, find_seen, seen_replaced}
 use Rattle.object_heap.proofs.SeenFacts.{find-seen, seen-replaced}
 use Rattle.object_heap.proofs.KeyPlaces.{replace-place, none_some}
 use Rattle.object_heap.proofs.held.Held.replace.Goals as goal

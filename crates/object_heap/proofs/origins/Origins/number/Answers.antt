@@ -1,5 +1,5 @@
-use Rattle.std.proofs.Common.{◌<◌, ◌≤◌, ℕ, ap, sym, ◌∙◌, length, arith}
-use Rattle.object_heap.specs.Origins.{origin_place, with_origin}
+use Rattle.std.proofs.Common.{ap, sym, ◌∙◌, arith}
+use Rattle.object_heap.specs.Origins.{with_origin}
 use Rattle.object_heap.proofs.OriginNumbers.{with_origin-there, with_origin-new}
 use Rattle.object_heap.proofs.origins.Origins.number.Goals.{in-Ok, in-Err}
 use Rattle.object_heap.proofs.origins.Origins.number.Goals as goal
