@@ -2,6 +2,7 @@ pub mod Codes
 pub mod Errors
 pub mod Keys
 pub mod Laws
+pub mod Maps
 pub mod Origins
 pub mod Places
 pub mod Retains

@@ -4,6 +4,7 @@ ghost use Rattle.descriptors.specs.Validation as validation;
 ghost use Rattle.es_model.specs.Changes.{Defining, Deleting, Preventing, SettingProto, Storing, added, changed, closed, is_there, removed, replaced, same_proto, with_proto};
 ghost use Rattle.es_model.specs.Objects.{is_proxy};
 ghost use Rattle.es_model.specs.World.{World, allows, deletes, extensible, kind, own, proto as proto_of};
+ghost use Rattle.object_heap.specs.Maps.{map_number};
 ghost use Rattle.object_heap.specs.Retains.{Retains};
 ghost use Rattle.object_heap.specs.Seen.{find_seen, seen_at};
 ghost use Rattle.object_heap.specs.Stands.{Goes, Keeps, StandsFor};
@@ -48,7 +49,10 @@ impl Heap {
     }
 
     /// The map of an object; None exactly for an object in dictionary form, and no object has another form yet.
-    pub fn map_of(&self, _object: ObjectId) -> Option<MapId> {
+    #[tactic(auto, unfolding(crate::specs::Maps::map_number))]
+    pub fn map_of(&self, _object: ObjectId) -> Option<MapId>
+        ensures { result ≡ map_number self.now _object }
+    {
         None
     }
 

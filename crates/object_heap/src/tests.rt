@@ -7,7 +7,7 @@ mod same;
 use crate::Heap;
 use calls::answer_of;
 use property_keys::NoMemory;
-use rows::{ROWS, Row};
+use rows::{LONG, ROWS, Row};
 use same::are_same;
 use std::alloc::Global;
 use std::test::Fail;
@@ -26,6 +26,7 @@ fn first_wrong(heap: &mut Heap, rows: &[Row]) -> Result<Option<usize>, NoMemory>
 fn answers_with_ample_memory(rt: HostRuntime) -> Result<(), Fail> {
     let mut heap = Heap::new(rt.alloc(), 50)?;
     assert_eq!(rt; first_wrong(&mut heap, &ROWS)?, None);
+    assert_eq!(rt; first_wrong(&mut heap, &LONG)?, None);
     Ok(())
 }
 

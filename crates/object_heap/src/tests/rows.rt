@@ -79,7 +79,7 @@ const HERE: LiteralPlace = LiteralPlace { line: 2, column: 5 };
 
 pub(crate) struct Row(pub(crate) Call, pub(crate) Answer);
 
-pub(crate) static ROWS: [Row; 141] = [
+pub(crate) static ROWS: [Row; 118] = [
     // texts: a new one goes last, and a known one has its number
     Row(Call::Beside(Other::Intern("x")), Answer::Text(TextId(28))),
     Row(Call::Beside(Other::Intern("name")), Answer::Text(TextId(1))),
@@ -426,7 +426,10 @@ pub(crate) static ROWS: [Row; 141] = [
     Row(Call::On(ObjectId(99), Change::Proto(Some(A))), Answer::Done),
     Row(Call::Of(ObjectId(99), Read::Proto), Answer::Object(None)),
     Row(Call::Of(ObjectId(99), Read::Key(0)), Answer::Key(None)),
-    // a text has at most 2^20 code units
+];
+
+/// After those: a text has at most 2^20 code units.
+pub(crate) static LONG: [Row; 23] = [
     Row(
         Call::Beside(Other::Concat(TextId(28), TextId(28))),
         Answer::Text(TextId(32)),

@@ -30,9 +30,9 @@ fn are_same_objects(a: &Heap, b: &Heap, object: ObjectId) -> Result<bool, NoMemo
     )
 }
 
-/// The calls make fewer than 40 new texts.
+/// The calls make four new texts.
 fn are_same_texts(a: &Texts, b: &Texts) -> bool {
-    for n in 0..68 {
+    for n in 0..32 {
         let is_there = (n as usize) < a.len() && (n as usize) < b.len();
         if is_there && a.units(TextId(n)) != b.units(TextId(n)) {
             return false;

@@ -1,0 +1,15 @@
+use Rattle.std.proofs.Common.{◌≡◌, suc, length}
+use Rattle.es_model.specs.World.{World}
+use Rattle.es_model.specs.Stages.{stage_of}
+use Rattle.es_model.specs.programs.Ordinary.{set_proto_round}
+use Rattle.object_heap.specs.Retains.{Retains}
+use Rattle.object_heap.specs.Stands.{StandsFor, Goes}
+use Rattle.ordinary_object.proofs.rounds.set_proto_rounds.Given as goal
+
+abbrev pub invariant-loop-stop : goal.invariant-loop-stop
+invariant-loop-stop g l = ((w : World) → StandsFor l.fn.heap w → (v : World) × Goes l.fn.heap l.heap w v
+    × (stage_of (set_proto_round (suc (length w.lists.objects)) l.object l.wanted l.wanted) w ≡ stage_of (set_proto_round (suc l.left) l.object l.wanted l.at) v))
+    × Retains l.fn.heap l.heap
+
+abbrev pub decreases-loop-stop : goal.decreases-loop-stop
+decreases-loop-stop g l = l.left

@@ -1,0 +1,3 @@
+pub mod Names
+pub mod Rests
+pub mod Rounds

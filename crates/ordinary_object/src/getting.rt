@@ -1,0 +1,92 @@
+ghost use Rattle.es_model.specs.Stages.{stage_of};
+ghost use Rattle.es_model.specs.World.{World};
+ghost use Rattle.es_model.specs.programs.Ordinary.{get_program, has_program};
+ghost use Rattle.object_heap.specs.Retains.{Retains};
+ghost use Rattle.object_heap.specs.Stands.{StandsFor};
+ghost use Rattle.object_heap.specs.Stops.{Stops};
+ghost use Rattle.object_heap.specs.Turns.{KeepsNamed};
+ghost use Rattle.ordinary_object.specs.Names.{names_of};
+ghost use Rattle.ordinary_object.specs.Rests.{program_after};
+
+use crate::OrdinaryFrame;
+use descriptors::Complete;
+use es_model::{Completion, Reply, Request, Stop, Turn, Values};
+use object_heap::Heap;
+use property_keys::{Ledger, ObjectId, PropKey, Steps, Value};
+use std::alloc::Global;
+
+/// [[HasProperty]] (10.1.7).
+pub(crate) fn has<L: Ledger>(
+    heap: &mut Heap,
+    object: ObjectId,
+    key: PropKey,
+    steps: &mut Steps<L>,
+) -> Result<Turn<OrdinaryFrame>, Stop>
+    ensures stops { (w : World) → StandsFor heap.old w → Stops program_after heap.old heap.new w (stage_of (has_program object key) w) result }
+    ensures named { (w : World) → KeepsNamed names_of w result }
+    ensures retains { Retains heap.old heap.new }
+{
+    match heap.own(object, key, steps) {
+        Some(_) => Ok(Turn::Done(Completion::Normal(Reply::Flag(true)))),
+        None => match heap.proto(object) {
+            None => Ok(Turn::Done(Completion::Normal(Reply::Flag(false)))),
+            Some(parent) => {
+                heap.charge(1)?;
+                let request = Request::Has {
+                    object: parent,
+                    key,
+                };
+                Ok(Turn::Ask(request, OrdinaryFrame::ParentHas))
+            }
+        },
+    }
+}
+
+/// [[Get]] (10.1.8).
+pub(crate) fn get<L: Ledger>(
+    alloc: Global,
+    heap: &mut Heap,
+    object: ObjectId,
+    key: PropKey,
+    receiver: Value,
+    steps: &mut Steps<L>,
+) -> Result<Turn<OrdinaryFrame>, Stop>
+    ensures stops { (w : World) → StandsFor heap.old w → Stops program_after heap.old heap.new w (stage_of (get_program object key receiver) w) result }
+    ensures named { (w : World) → KeepsNamed names_of w result }
+    ensures retains { Retains heap.old heap.new }
+{
+    match heap.own(object, key, steps) {
+        None => match heap.proto(object) {
+            None => Ok(Turn::Done(Completion::Normal(Reply::Value(Value::Undefined)))),
+            Some(parent) => {
+                heap.charge(1)?;
+                let request = Request::Read {
+                    object: parent,
+                    key,
+                    receiver,
+                    site: None,
+                };
+                Ok(Turn::Ask(request, OrdinaryFrame::ParentGet))
+            }
+        },
+        Some(Complete::Stored { value, .. }) => {
+            Ok(Turn::Done(Completion::Normal(Reply::Value(value))))
+        }
+        Some(Complete::Accessor { get: None, .. }) => {
+            Ok(Turn::Done(Completion::Normal(Reply::Value(Value::Undefined))))
+        }
+        Some(
+            Complete::Accessor {
+                get: Some(getter),
+                ..
+            },
+        ) => {
+            let request = Request::Call {
+                function: Value::Object(getter),
+                this: receiver,
+                arguments: Values::new(alloc),
+            };
+            Ok(Turn::Ask(request, OrdinaryFrame::GetterCalled))
+        }
+    }
+}
