@@ -1,21 +1,18 @@
 -- Lemmas on the run: what was stored so far, what was printed so far, and what is left to print.
-use Rattle.std.proofs.Common.{◌≡◌, ◌<◌, ◌≤◌, ◌+◌, ◌++◌, ◌∷◌, ◌∙◌, [], ℕ, Bool, true, false, List, Option, Some, None, zero, suc, length, take, drop, get_or, refl, sym, ap, true≢false, arith, codes, append_assoc, append-nil, add-one, if◌then◌else◌}
-use Rattle.std.proofs.lemmas.List.{take_more}
+use Rattle.std.proofs.Common.{◌≡◌, ◌≤◌, ◌+◌, ◌++◌, ◌∷◌, ◌∙◌, [], ℕ, Bool, true, false, List, Option, Some, None, length, drop, slice_get, refl, sym, ap, subst, true≢false, codes, append_assoc, append-nil, if◌then◌else◌}
 use Rattle.std.proofs.lemmas.Slice.Eq.{bytes_eq-Decides}
-use Rattle.std.proofs.Math.Seq.{drop-cons}
-use Rattle.std.proofs.KnownBytes.{Appends-trans}
 use Rattle.std.specs.Io.KnownBytes.{Appends}
 use Rattle.std.specs.Option.{option_or}
 use Rattle.std.specs.Str.{bytes_eq}
+use Rattle.es_model.specs.declared.numbers.NodeId.{NodeId}
+use Rattle.es_model.specs.Tree.{Tree}
 use Rattle.hc_outside.specs.Sinks.{AppendsFront}
 use Rattle.hc_outside.proofs.Fronts.{front_after}
-use Rattle.script_host.specs.declared.first_form.line.FirstLine.{FirstLine}
-use Rattle.script_host.specs.declared.first_form.line.FirstLine.TheVariants.{Store, Print}
-use Rattle.script_host.specs.FirstOutput.{shown, stored_by, last_stored, printed_below}
+use Rattle.script_host.specs.FirstItems.{Line, Store, Print, with_line, line_at, lines_in}
+use Rattle.script_host.specs.FirstOutput.{shown, stored_by, last_stored, printed_below, printed}
 use Rattle.script_host.specs.FirstObject.{value_under, with_value}
-use Rattle.script_host.specs.FirstRun.{output_of, object_after, HasStored}
-use Rattle.script_host.specs.Leaves.{counted_times, line_count}
-use Rattle.script_host.proofs.Lines.{writes_next}
+use Rattle.script_host.specs.FirstRun.{output_of, object_after, output_at, object_at, HasStored}
+use Rattle.script_host.proofs.Drops.{drop_at, drop_all}
 
 same_bytes : (a b : List ℕ) → bytes_eq a b ≡ true → a ≡ b
 same_bytes a b e = (bytes_eq-Decides a b).0 e
@@ -51,7 +48,7 @@ or_assoc : (a b c : Option ℕ) → option_or (option_or a b) c ≡ option_or a 
 or_assoc None b c = refl
 or_assoc (Some x) b c = refl
 
-pub last_stored-append : (above : List FirstLine) (line : FirstLine) (key : List ℕ)
+pub last_stored-append : (above : List Line) (line : Line) (key : List ℕ)
     → last_stored (above ++ line ∷ []) key ≡ option_or (stored_by line key) (last_stored above key)
 last_stored-append [] line key = sym (or_none (stored_by line key))
 last_stored-append (first ∷ above) line key =
@@ -62,66 +59,81 @@ chosen : (b : Bool) (value : ℕ) (o p : Option ℕ) → o ≡ p → (if b then 
 chosen true value o p e = refl
 chosen false value o p e = e
 
-pub stored_next : (object : List (List ℕ × ℕ)) (above : List FirstLine) (line : FirstLine) → HasStored object above → HasStored (object_after object line) (above ++ line ∷ [])
+pub stored_next : (object : List (List ℕ × ℕ)) (above : List Line) (line : Line) → HasStored object above → HasStored (object_after object line) (above ++ line ∷ [])
 stored_next object above (Store key value) stored wanted =
     value_under-with_value object key wanted value
     ∙ chosen (bytes_eq key wanted) value _ _ (stored wanted) ∙ sym (last_stored-append above (Store key value) wanted)
 stored_next object above (Print key) stored wanted = stored wanted ∙ sym (last_stored-append above (Print key) wanted)
 
-pub printed_next : (object : List (List ℕ × ℕ)) (above : List FirstLine) (line : FirstLine) (lines : List FirstLine) → HasStored object above
+pub printed_next : (object : List (List ℕ × ℕ)) (above : List Line) (line : Line) (lines : List Line) → HasStored object above
     → printed_below above (line ∷ lines) ≡ output_of object line ++ printed_below (above ++ line ∷ []) lines
 printed_next object above (Store key value) lines stored = refl
 printed_next object above (Print key) lines stored =
     ap (λ (o : Option ℕ). (shown o ++ codes "\n") ++ printed_below (above ++ Print key ∷ []) lines) (sym (stored key))
 
--- the lines above the next one, and those from the next one on
-above_next : (lines : List FirstLine) (i : ℕ) (line : FirstLine) → i < length lines → line ≡ get_or lines i line → take (i + 1) lines ≡ take i lines ++ line ∷ []
-above_next lines i line lt is = take_more lines i line lt ∙ ap (λ (l : FirstLine). take i lines ++ l ∷ []) (sym is)
+-- What was printed so far, what the object has by it, and what is left to print, of all that is printed.
+pub record Told (object : List (List ℕ × ℕ)) (below : List Line) (part all : List ℕ) : Type 0 where
+  pub above : List Line
+  pub stored : HasStored object above
+  pub printed : part ++ printed_below above below ≡ all
 
-below_next : (lines : List FirstLine) (i : ℕ) (line : FirstLine) → i < length lines → line ≡ get_or lines i line → drop i lines ≡ line ∷ drop (i + 1) lines
-below_next lines i line lt is = rw add-one (drop-cons lines i line lt ∙ ap (λ (l : FirstLine). l ∷ drop (suc i) lines) (sym is))
+-- an item that is a line, and one that is none
+pub record Steps (object : List (List ℕ × ℕ)) (above : List Line) (found : Option Line) (rest : List Line) : Type 0 where
+  pub more : List Line
+  pub stored : HasStored (object_at object found) more
+  pub printed : printed_below above (with_line found rest) ≡ output_at object found ++ printed_below more rest
 
-pub stored_at : (object : List (List ℕ × ℕ)) (lines : List FirstLine) (i : ℕ) (line : FirstLine) → i < length lines → line ≡ get_or lines i line
-    → HasStored object (take i lines) → HasStored (object_after object line) (take (i + 1) lines)
-stored_at object lines i line lt is stored = rw (above_next lines i line lt is) (stored_next object (take i lines) line stored)
+step : (object : List (List ℕ × ℕ)) (above : List Line) (found : Option Line) (rest : List Line) → HasStored object above → Steps object above found rest
+step object above None rest stored = record { more = above; stored = stored; printed = refl }
+step object above (Some line) rest stored = record {
+  more = above ++ line ∷ [];
+  stored = stored_next object above line stored;
+  printed = printed_next object above line rest stored;
+}
 
--- what is printed is what was printed so far, the next line's output, and the rest
-parts : (object : List (List ℕ × ℕ)) (lines : List FirstLine) (i : ℕ) (line : FirstLine) (part all : List ℕ) → i < length lines → line ≡ get_or lines i line
-    → HasStored object (take i lines) → part ++ printed_below (take i lines) (drop i lines) ≡ all
-    → all ≡ (part ++ output_of object line) ++ printed_below (take (i + 1) lines) (drop (i + 1) lines)
-parts object lines i line part all lt is stored told =
-    let next : printed_below (take i lines) (drop i lines) ≡ output_of object line ++ printed_below (take (i + 1) lines) (drop (i + 1) lines) =
-    rw (above_next lines i line lt is, below_next lines i line lt is) (printed_next object (take i lines) line (drop (i + 1) lines) stored) in
-    sym told ∙ ap (λ (rest : List ℕ). part ++ rest) next ∙ sym (append_assoc part (output_of object line) _)
+-- what is printed is what was printed so far, the next item's output, and the rest
+parts : (object : List (List ℕ × ℕ)) (found : Option Line) (rest : List Line) (part all : List ℕ) (told : Told object (with_line found rest) part all)
+    → (part ++ output_at object found) ++ printed_below (step object told.above found rest told.stored).more rest ≡ all
+parts object found rest part all told =
+    let next = step object told.above found rest told.stored in
+    append_assoc part (output_at object found) (printed_below next.more rest) ∙ ap (λ (later : List ℕ). part ++ later) (sym next.printed) ∙ told.printed
 
-rest_of : (lines : List FirstLine) (i : ℕ) → length lines ≤ i → (above : List FirstLine) → printed_below above (drop i lines) ≡ []
-rest_of [] i le above = nothing i above
-  where
-    nothing : (i : ℕ) (above : List FirstLine) → printed_below above (drop i []) ≡ []
-    nothing zero above = refl
-    nothing (suc i) above = refl
-rest_of (line ∷ lines) zero le above = absurd (omega arith)
-rest_of (line ∷ lines) (suc i) le above = rest_of lines i (omega arith) above
+pub told_next : (object : List (List ℕ × ℕ)) (found : Option Line) (rest : List Line) (part all : List ℕ) → Told object (with_line found rest) part all
+    → Told (object_at object found) rest (part ++ output_at object found) all
+told_next object found rest part all told = record {
+  above = (step object told.above found rest told.stored).more;
+  stored = (step object told.above found rest told.stored).stored;
+  printed = parts object found rest part all told;
+}
 
-pub told_next : (a b c : Option (List ℕ)) (before middle now : ℕ) (object : List (List ℕ × ℕ)) (lines : List FirstLine) (i : ℕ) (line : FirstLine) (part all : List ℕ)
-    → i < length lines → line ≡ get_or lines i line → HasStored object (take i lines) → Appends a b part
-    → part ++ printed_below (take i lines) (drop i lines) ≡ all → middle ≡ counted_times (line_count part) before → Appends b c (output_of object line)
-    → now ≡ counted_times (line_count (output_of object line)) middle
-    → (more : List ℕ) × Appends a c more × (more ++ printed_below (take (i + 1) lines) (drop (i + 1) lines) ≡ all)
-    × (now ≡ counted_times (line_count more) before)
-told_next a b c before middle now object lines i line part all lt is stored so_far told first more next = (
-  part ++ output_of object line,
-  Appends-trans a b c part (output_of object line) so_far more,
-  sym (parts object lines i line part all lt is stored told),
-  writes_next part (output_of object line) before middle now first next,
-)
+pub told_front : (a b c : Option (List ℕ)) (object : List (List ℕ × ℕ)) (found : Option Line) (rest : List Line) (part all : List ℕ) → Told object (with_line found rest) part all
+    → Appends a b part → AppendsFront b c (output_at object found) → AppendsFront a c all
+told_front a b c object found rest part all told so_far front =
+    front_after a b c part (output_at object found) (printed_below (step object told.above found rest told.stored).more rest) all
+    (sym (parts object found rest part all told)) so_far front
 
--- at the end all is printed
-pub told_end : (lines : List FirstLine) (i : ℕ) (part all : List ℕ) → length lines ≤ i → part ++ printed_below (take i lines) (drop i lines) ≡ all → part ≡ all
-told_end lines i part all le told = sym (append-nil part) ∙ ap (λ (rest : List ℕ). part ++ rest) (sym (rest_of lines i le (take i lines))) ∙ told
+-- at the start nothing is printed, and at the end all
+pub told_start : (lines : List Line) → Told [] lines [] (printed lines)
+told_start lines = record { above = []; stored = λ key. refl; printed = refl }
 
-pub told_front : (a b c : Option (List ℕ)) (object : List (List ℕ × ℕ)) (lines : List FirstLine) (i : ℕ) (line : FirstLine) (part all : List ℕ) → i < length lines
-    → line ≡ get_or lines i line → HasStored object (take i lines) → Appends a b part → part ++ printed_below (take i lines) (drop i lines) ≡ all
-    → AppendsFront b c (output_of object line) → AppendsFront a c all
-told_front a b c object lines i line part all lt is stored so_far told front =
-    front_after a b c part (output_of object line) (printed_below (take (i + 1) lines) (drop (i + 1) lines)) all (parts object lines i line part all lt is stored told) so_far front
+pub told_end : (object : List (List ℕ × ℕ)) (part all : List ℕ) → Told object [] part all → part ≡ all
+told_end object part all told = sym (append-nil part) ∙ told.printed
+
+-- ---- the items of a script, from one of them on
+
+pub lines_next : (tree : Tree) (name : List ℕ) (items : List NodeId) (i : ℕ) (n : NodeId) → slice_get items i ≡ Some n
+    → lines_in tree name (drop i items) ≡ with_line (line_at tree name n) (lines_in tree name (drop (i + 1) items))
+lines_next tree name items i n is = ap (lines_in tree name) (drop_at items i n is)
+
+pub lines_end : (tree : Tree) (name : List ℕ) (items : List NodeId) (i : ℕ) → length items ≤ i → lines_in tree name (drop i items) ≡ []
+lines_end tree name items i le = ap (lines_in tree name) (drop_all items i le)
+
+pub told_at : (tree : Tree) (name : List ℕ) (items : List NodeId) (i : ℕ) (n : NodeId) (object : List (List ℕ × ℕ)) (part all : List ℕ) → slice_get items i ≡ Some n
+    → Told object (lines_in tree name (drop i items)) part all
+    → Told object (with_line (line_at tree name n) (lines_in tree name (drop (i + 1) items))) part all
+told_at tree name items i n object part all is told = subst (λ (lines : List Line). Told object lines part all) (lines_next tree name items i n is) told
+
+pub told_whole : (tree : Tree) (name : List ℕ) (items : List NodeId) (i : ℕ) (object : List (List ℕ × ℕ)) (part all : List ℕ) → length items ≤ i
+    → Told object (lines_in tree name (drop i items)) part all → part ≡ all
+told_whole tree name items i object part all le told =
+    told_end object part all (subst (λ (lines : List Line). Told object lines part all) (lines_end tree name items i le) told)

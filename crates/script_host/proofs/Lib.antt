@@ -1,9 +1,11 @@
-pub mod FirstLines
+pub mod Drops
 pub mod FirstObjects
 pub mod FirstRuns
-pub mod FirstScripts
 pub mod Lines
 pub mod Numbers
+pub mod Readings
+pub mod ReadPhases
 pub mod Settled
-pub mod Spans
+pub mod Texts
+pub mod Unfit
 pub mod Whole

@@ -5,9 +5,8 @@ use Rattle.std.specs.Global.{Vec}
 use Rattle.std.specs.List.{list_all}
 use Rattle.property_keys.specs.Counts.{counted}
 use Rattle.script_host.specs.Leaves.{counted_times, line_count}
-use Rattle.script_host.specs.Spans.{is_digit}
-use Rattle.script_host.proofs.Numbers.{digit_low}
-use Rattle.script_host.proofs.Spans.{head_passes, tail_passes}
+use Rattle.script_host.specs.Digits.{is_digit}
+use Rattle.script_host.proofs.Numbers.{digit_low, head_passes, tail_passes}
 
 not_a_feed : (c : ℕ) → is_digit c ≡ true → (c == 10) ≡ false
 not_a_feed c h = elim (eqb_tells c 10) [ inl e ↦ absurd (omega (arith, digit_low c h, e.1)) | inr e ↦ e.0 ]

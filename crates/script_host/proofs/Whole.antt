@@ -1,22 +1,65 @@
--- The laws of the first form and of what a call leaves.
-use Rattle.std.proofs.Common.{◌≡◌, ◌⊎◌, ◌<◌, ◌≤◌, ◌++◌, ◌∙◌, [], ℕ, List, Some, None, inl, inr, sym, ap, subst, length, length-append, append-nil, arith, true≢false}
+-- The laws of the answers and of what a call leaves.
+use Rattle.std.proofs.Common.{◌≡◌, ◌⊎◌, ◌<◌, ◌++◌, ◌∙◌, [], ℕ, List, Option, Some, None, inl, inr, refl, sym, ap, subst, length, length-append, append-nil, arith}
+use Rattle.es_model.specs.declared.faults.SourceFault.{SourceFault}
+use Rattle.es_model.specs.declared.faults.FaultCode.TheVariants.{TooLong}
+use Rattle.es_model.specs.declared.place.Place.{Place}
+use Rattle.es_model.specs.Places.{place_after}
+use Rattle.es_model.specs.Reading.{fault_at}
+use Rattle.es_model.specs.Tree.{Tree}
+use Rattle.es_model.proofs.Phases.{too_long}
 use Rattle.hc_outside.specs.Files.{bytes_named}
+use Rattle.script_rules.specs.FirstFault.{HasFirstFault, at_tokens}
 use Rattle.script_host.specs.declared.status.Status.TheVariants as status
+use Rattle.script_host.specs.Answers.{Answer, Finishes, Misuses, Faults, Unbuilt, CannotRead, IsAnswer, IsAsked, IsAskedOfFile, FilesChange, most_bytes, file_of}
 use Rattle.script_host.specs.FileBytes.{IsReadOf}
-use Rattle.script_host.specs.FirstForm.{most_bytes}
-use Rattle.script_host.specs.FirstOutput.{printed, FirstOutput, IsNotFirstForm}
-use Rattle.script_host.specs.Laws.{PrintsOneOutput, SpeaksOfWholeFile}
-use Rattle.script_host.proofs.FirstScripts.{script_unique}
+use Rattle.script_host.specs.FirstItems.{unbuilt, lines_of}
+use Rattle.script_host.specs.FirstOutput.{printed}
+use Rattle.script_host.specs.Laws.{HasOneAnswer, HasReading, HasFault, HasTree, SpeaksOfWholeFile}
+use Rattle.script_host.specs.Leaves.{IsRefusal}
+use Rattle.script_host.proofs.Readings.{one_reading, only_at_tokens, no_tree, some_none}
 
-pub one_output : PrintsOneOutput
-one_output bytes one other first second =
-    first.3 ∙ ap printed (script_unique bytes first.0 second.0 first.1 second.1 first.2 second.2) ∙ sym second.3
+-- ---- one answer
+
+fault_alone : (bytes : List ℕ) (f : SourceFault) → HasFault bytes f → (other : Answer) → IsAnswer bytes other → other ≡ Faults f
+fault_alone bytes f has (Faults g) given = ap Faults (has.1 g given)
+fault_alone bytes f has (Unbuilt place) given = absurd (has.2 given.0 given.1)
+fault_alone bytes f has (Finishes output) given = absurd (has.2 given.0 given.1)
+fault_alone bytes f has Misuses given = absurd given
+fault_alone bytes f has (CannotRead name) given = absurd given
+
+same_place : (p q : Place) → Some p ≡ Some q → p ≡ q
+same_place p q e = cc
+
+unbuilt_alone : (bytes : List ℕ) (t : Tree) (place : Place) → HasTree bytes t → unbuilt t ≡ Some place → (other : Answer) → IsAnswer bytes other → other ≡ Unbuilt place
+unbuilt_alone bytes t place has is (Faults g) given = absurd (has.2 g given)
+unbuilt_alone bytes t place has is (Unbuilt found) given = ap Unbuilt (same_place found place (sym given.2 ∙ ap unbuilt (has.1 given.0 given.1) ∙ is))
+unbuilt_alone bytes t place has is (Finishes output) given = absurd (some_none place (sym is ∙ ap unbuilt (sym (has.1 given.0 given.1)) ∙ given.2))
+unbuilt_alone bytes t place has is Misuses given = absurd given
+unbuilt_alone bytes t place has is (CannotRead name) given = absurd given
+
+output_alone : (bytes : List ℕ) (t : Tree) → HasTree bytes t → unbuilt t ≡ None → (other : Answer) → IsAnswer bytes other → other ≡ Finishes (printed (lines_of t))
+output_alone bytes t has is (Faults g) given = absurd (has.2 g given)
+output_alone bytes t has is (Unbuilt found) given = absurd (some_none found (sym given.2 ∙ ap unbuilt (has.1 given.0 given.1) ∙ is))
+output_alone bytes t has is (Finishes output) given = ap Finishes (given.3 ∙ ap (λ (u : Tree). printed (lines_of u)) (has.1 given.0 given.1))
+output_alone bytes t has is Misuses given = absurd given
+output_alone bytes t has is (CannotRead name) given = absurd given
+
+tree_answer : (bytes : List ℕ) (t : Tree) (place : Option Place) → HasTree bytes t → unbuilt t ≡ place
+    → (answer : Answer) × IsAnswer bytes answer × ((other : Answer) → IsAnswer bytes other → other ≡ answer)
+tree_answer bytes t (Some place) has is = (Unbuilt place, (t, has.0, is), unbuilt_alone bytes t place has is)
+tree_answer bytes t None has is = (Finishes (printed (lines_of t)), (t, has.0, is, refl), output_alone bytes t has is)
+
+answer_of : (bytes : List ℕ) → HasReading bytes → (answer : Answer) × IsAnswer bytes answer × ((other : Answer) → IsAnswer bytes other → other ≡ answer)
+answer_of bytes (inl fault) = (Faults fault.0, fault.1.0, fault_alone bytes fault.0 fault.1)
+answer_of bytes (inr tree) = tree_answer bytes tree.0 (unbuilt tree.0) tree.1 refl
+
+pub one_answer : HasOneAnswer
+one_answer bytes = answer_of bytes (one_reading bytes)
+
+-- ---- the whole file
 
 same_some : (a b : List ℕ) → Some a ≡ Some b → a ≡ b
 same_some a b e = cc
-
-some_none : (a : List ℕ) → Some a ≡ None → ⊥
-some_none a e = true≢false (cc)
 
 -- the bytes read are the whole file, or longer than a script may be, and then so is the file
 read_whole : (all : List (List ℕ × List ℕ)) (name other whole bytes : List ℕ) → name ≡ other → bytes_named all name ≡ Some whole
@@ -30,25 +73,41 @@ read_whole all name other whole bytes same told read = at_rest read.2
     at_rest (inl none) = inl (sym (parts ∙ ap (λ rest. bytes ++ rest) none ∙ append-nil bytes))
     at_rest (inr long) = inr (long, omega (arith, ap length parts, length-append bytes read.0))
 
-finished_right : (bytes whole output : List ℕ) → (bytes ≡ whole) ⊎ ((most_bytes < length bytes) × (most_bytes < length whole)) → FirstOutput bytes output → FirstOutput whole output
-finished_right bytes whole output (inl same) first = subst (λ (b : List ℕ). FirstOutput b output) same first
-finished_right bytes whole output (inr long) first = let short : length bytes ≤ most_bytes = first.2.short in absurd (omega (arith, long.0, short))
+-- a file that is too long and a front of it that is have the same answer
+long_right : (bytes whole : List ℕ) (answer : Answer) → most_bytes < length bytes → most_bytes < length whole → IsAnswer bytes answer → IsAnswer whole answer
+long_right bytes whole (Faults f) front long given =
+    let same : f ≡ fault_at TooLong (place_after []) = only_at_tokens bytes (fault_at TooLong (place_after [])) f (Some f) (too_long bytes front) given refl in
+    subst (λ (g : SourceFault). HasFirstFault whole (Some g)) (sym same) (at_tokens (too_long whole long))
+long_right bytes whole (Unbuilt place) front long given = absurd (no_tree bytes _ given.0 (too_long bytes front) given.1)
+long_right bytes whole (Finishes output) front long given = absurd (no_tree bytes _ given.0 (too_long bytes front) given.1)
+long_right bytes whole Misuses front long given = absurd given
+long_right bytes whole (CannotRead name) front long given = absurd given
 
-refused_right : (bytes whole : List ℕ) → (bytes ≡ whole) ⊎ ((most_bytes < length bytes) × (most_bytes < length whole)) → IsNotFirstForm bytes → IsNotFirstForm whole
-refused_right bytes whole (inl same) none = subst IsNotFirstForm same none
-refused_right bytes whole (inr long) none = λ name lines script.
-    let short : length whole ≤ most_bytes = script.short in
-    absurd (omega (arith, long.1, short))
+whole_right : (bytes whole : List ℕ) (answer : Answer) → (bytes ≡ whole) ⊎ ((most_bytes < length bytes) × (most_bytes < length whole)) → IsAnswer bytes answer
+    → IsAnswer whole answer
+whole_right bytes whole answer (inl same) given = subst (λ (b : List ℕ). IsAnswer b answer) same given
+whole_right bytes whole answer (inr long) given = long_right bytes whole answer long.0 long.1 given
+
+-- an answer that is asked of a file is that to all its bytes
+file_right : (words : List (List ℕ)) (files : FilesChange) (all : List (List ℕ × List ℕ)) (name whole : List ℕ) (answer : Answer) → files.held ≡ Some all
+    → file_of words ≡ Some name → bytes_named all name ≡ Some whole → IsAskedOfFile words files answer → IsAnswer whole answer
+file_right words files all name whole answer held word told asked =
+    let read : IsReadOf (Some all) asked.0 most_bytes asked.1 = rw held at asked.4 in
+    whole_right asked.1 whole answer (read_whole all name asked.0 whole asked.1 (same_some name asked.0 (sym word ∙ asked.2)) told read) asked.5
+
+refusal_right : (words : List (List ℕ)) (files : FilesChange) (all : List (List ℕ × List ℕ)) (name whole : List ℕ) (answer : Answer) → files.held ≡ Some all
+    → file_of words ≡ Some name → bytes_named all name ≡ Some whole → IsRefusal answer → IsAsked words files answer → IsAnswer whole answer
+refusal_right words files all name whole (Faults f) held word told refuses asked = file_right words files all name whole (Faults f) held word told asked
+refusal_right words files all name whole (Unbuilt p) held word told refuses asked = file_right words files all name whole (Unbuilt p) held word told asked
+refusal_right words files all name whole (Finishes output) held word told refuses asked = absurd refuses
+refusal_right words files all name whole Misuses held word told refuses asked = absurd refuses
+refusal_right words files all name whole (CannotRead other) held word told refuses asked = absurd refuses
 
 pub whole_file : SpeaksOfWholeFile
 whole_file words files out err status.Finished all name whole left held word told =
-    let asked = left.1 in
-    let read : IsReadOf (Some all) asked.0 most_bytes asked.1 = rw held at asked.4 in
-    (left.0, finished_right asked.1 whole left.0 (read_whole all name asked.0 whole asked.1 (same_some name asked.0 (sym word ∙ asked.2)) told read) asked.5, left.2)
+    (left.0, file_right words files all name whole (Finishes left.0) held word told left.1, left.2)
 whole_file words files out err status.Refused all name whole left held word told =
-    let asked = left.0 in
-    let read : IsReadOf (Some all) asked.0 most_bytes asked.1 = rw held at asked.4 in
-    refused_right asked.1 whole (read_whole all name asked.0 whole asked.1 (same_some name asked.0 (sym word ∙ asked.2)) told read) asked.5
+    (left.0, left.1, refusal_right words files all name whole left.0 held word told left.1 left.2, left.4)
 whole_file words files out err status.Usage all name whole left held word told = absurd (some_none name (sym word ∙ left.0.0))
 whole_file words files out err status.Thrown all name whole left held word told = left
 whole_file words files out err status.BudgetEnded all name whole left held word told = left

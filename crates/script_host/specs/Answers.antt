@@ -1,13 +1,26 @@
 -- What the words and the file ask for: an answer, with its bytes for the output and its note.
-use Rattle.std.specs.Prelude.{◌≡◌, ◌++◌, ◌∷◌, ◌==◌, [], ℕ, Bool, false, List, Option, Some, None, codes, if◌then◌else◌}
+use Rattle.std.specs.Prelude.{◌≡◌, ◌++◌, ◌∷◌, ◌==◌, ◌^◌, [], ℕ, Bool, false, List, Option, Some, None, codes, if◌then◌else◌}
+use Rattle.std.specs.Fmt.{decimal}
 use Rattle.hc_outside.specs.Causes.{Rises}
+use Rattle.es_model.specs.declared.faults.FaultCode.{FaultCode}
+use Rattle.es_model.specs.declared.faults.FaultCode.TheVariants as code
+use Rattle.es_model.specs.declared.faults.SourceFault.{SourceFault}
+use Rattle.es_model.specs.declared.place.Place.{Place}
+use Rattle.es_model.specs.Tree.{Tree}
+use Rattle.script_checker.specs.Contract.{IsTreeOf}
+use Rattle.script_rules.specs.FirstFault.{HasFirstFault}
+use Rattle.script_rules.specs.Faults.{code_number}
 use Rattle.script_host.specs.FileBytes.{IsReadOf}
-use Rattle.script_host.specs.FirstForm.{most_bytes}
-use Rattle.script_host.specs.FirstOutput.{FirstOutput, IsNotFirstForm}
+use Rattle.script_host.specs.FirstItems.{unbuilt, lines_of}
+use Rattle.script_host.specs.FirstOutput.{printed}
 
 abbrev pub begins_with_dash : List ℕ → Bool
 begins_with_dash [] = false
 begins_with_dash (c ∷ cs) = c == 45
+
+-- a script has so many bytes at most
+abbrev pub most_bytes : ℕ
+most_bytes = 2 ^ 22
 
 -- the name of the file: the words are one word, which does not begin with `-`
 abbrev pub file_of : List (List ℕ) → Option (List ℕ)
@@ -20,8 +33,10 @@ pub data Answer : Type 0 where
   Finishes : List ℕ → Answer
   -- the words are not of the form above
   Misuses : Answer
-  -- the bytes have not the first form
-  Refuses : Answer
+  -- the script has this first fault
+  Faults : SourceFault → Answer
+  -- the script has no fault, and its first item that does not run yet stands here
+  Unbuilt : Place → Answer
   -- the file of this name cannot be read
   CannotRead : List ℕ → Answer
 
@@ -29,14 +44,34 @@ pub data Answer : Type 0 where
 abbrev pub output_of : Answer → List ℕ
 output_of (Finishes output) = output
 output_of Misuses = []
-output_of Refuses = []
+output_of (Faults fault) = []
+output_of (Unbuilt place) = []
 output_of (CannotRead name) = []
+
+-- the name of a fault's code
+abbrev pub fault_name : FaultCode → List ℕ
+fault_name code.TooLong = codes "TooLong"
+fault_name code.NotUtf8 = codes "NotUtf8"
+fault_name code.BadToken = codes "BadToken"
+fault_name code.Unexpected = codes "Unexpected"
+fault_name code.TooDeep = codes "TooDeep"
+fault_name code.Duplicate = codes "Duplicate"
+fault_name code.Capture = codes "Capture"
+fault_name code.BadBinding = codes "BadBinding"
+fault_name code.Misplaced = codes "Misplaced"
+
+-- a line and a column
+abbrev pub place_text : ℕ → ℕ → List ℕ
+place_text line column = decimal line ++ codes ":" ++ decimal column
 
 -- what it puts on the error output
 abbrev pub note_of : Answer → List ℕ
 note_of (Finishes output) = []
 note_of Misuses = codes "hcjs: usage: hcjs FILE\n"
-note_of Refuses = codes "hcjs: not of the first form\n"
+note_of (Faults fault) =
+    codes "hcjs: " ++ place_text fault.line fault.column ++ codes ": fault " ++ decimal (code_number fault.code) ++ codes " " ++ fault_name fault.code
+    ++ codes "\n"
+note_of (Unbuilt place) = codes "hcjs: " ++ place_text place.line place.column ++ codes ": not built\n"
 note_of (CannotRead name) = codes "hcjs: cannot read " ++ name ++ codes "\n"
 
 -- what the files tell, and their count of faults before and after a call
@@ -48,11 +83,23 @@ pub record FilesChange : Type 0 where
 abbrev pub files_change : Option (List (List ℕ × List ℕ)) → ℕ → ℕ → FilesChange
 files_change held before after = record { held = held; before = before; after = after }
 
--- when an answer is asked for: the words first, then a fault of the files, then the form of the bytes
+-- the answer to the bytes of a script: its first fault; or, of its tree, the first item that does not run yet, or what its lines print
+abbrev pub IsAnswer : List ℕ → Answer → Type 0
+IsAnswer bytes (Faults fault) = HasFirstFault bytes (Some fault)
+IsAnswer bytes (Unbuilt place) = (tree : Tree) × IsTreeOf bytes tree × (unbuilt tree ≡ Some place)
+IsAnswer bytes (Finishes output) = (tree : Tree) × IsTreeOf bytes tree × (unbuilt tree ≡ None) × (output ≡ printed (lines_of tree))
+IsAnswer bytes Misuses = ⊥
+IsAnswer bytes (CannotRead name) = ⊥
+
+-- the file was read without a fault of the files, and this is the answer to its bytes
+abbrev pub IsAskedOfFile : List (List ℕ) → FilesChange → Answer → Type 0
+IsAskedOfFile words files answer =
+    (name bytes : List ℕ) × (file_of words ≡ Some name) × (files.after ≡ files.before) × IsReadOf files.held name most_bytes bytes × IsAnswer bytes answer
+
+-- when an answer is asked for: the words first, then a fault of the files, then the script
 abbrev pub IsAsked : List (List ℕ) → FilesChange → Answer → Type 0
 IsAsked words files Misuses = (file_of words ≡ None) × (files.after ≡ files.before)
 IsAsked words files (CannotRead name) = (file_of words ≡ Some name) × Rises files.before files.after
-IsAsked words files Refuses =
-    (name bytes : List ℕ) × (file_of words ≡ Some name) × (files.after ≡ files.before) × IsReadOf files.held name most_bytes bytes × IsNotFirstForm bytes
-IsAsked words files (Finishes output) =
-    (name bytes : List ℕ) × (file_of words ≡ Some name) × (files.after ≡ files.before) × IsReadOf files.held name most_bytes bytes × FirstOutput bytes output
+IsAsked words files (Faults fault) = IsAskedOfFile words files (Faults fault)
+IsAsked words files (Unbuilt place) = IsAskedOfFile words files (Unbuilt place)
+IsAsked words files (Finishes output) = IsAskedOfFile words files (Finishes output)

@@ -1,4 +1,4 @@
--- The object of a script of the first form: a list of names with numbers, in order of creation.
+-- The object of a script that runs: a list of names with numbers, in order of creation.
 use Rattle.std.specs.Prelude.{◌≡◌, ◌<◌, ◌≤◌, ◌⊎◌, ◌++◌, ◌∷◌, ◌==◌, [], ℕ, List, Option, Some, None, length, slice_set, ⊤, if◌then◌else◌}
 use Rattle.std.specs.Str.{bytes_eq}
 use Rattle.property_keys.specs.Texts.{text_at, interned, HasOneEach}

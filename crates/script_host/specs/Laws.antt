@@ -1,29 +1,47 @@
--- Laws of the first form and of what a call leaves, each named by a public function.
-use Rattle.std.specs.Prelude.{◌≡◌, ℕ, List, Some, ⊤}
+-- Laws of the answers to bytes and of what a call leaves, each named by a public function.
+use Rattle.std.specs.Prelude.{◌≡◌, ◌⊎◌, ℕ, List, Some, ⊤}
+use Rattle.es_model.specs.declared.faults.SourceFault.{SourceFault}
+use Rattle.es_model.specs.Tree.{Tree}
 use Rattle.hc_outside.specs.Files.{bytes_named}
+use Rattle.script_checker.specs.Contract.{IsTreeOf}
+use Rattle.script_rules.specs.FirstFault.{HasFirstFault}
 use Rattle.script_host.specs.declared.status.Status.{Status}
 use Rattle.script_host.specs.declared.status.Status.TheVariants as status
-use Rattle.script_host.specs.Answers.{Finishes, file_of, FilesChange}
-use Rattle.script_host.specs.FirstOutput.{FirstOutput, IsNotFirstForm}
-use Rattle.script_host.specs.Leaves.{SinkChange, TookOutput, Leaves}
+use Rattle.script_host.specs.Answers.{Answer, Finishes, note_of, file_of, FilesChange, IsAnswer}
+use Rattle.script_host.specs.Leaves.{SinkChange, IsRefusal, TookOutput, TookNote, Leaves}
 
--- a file has at most one output
-abbrev pub PrintsOneOutput : Type 0
-PrintsOneOutput = (bytes one other : List ℕ) → FirstOutput bytes one → FirstOutput bytes other → one ≡ other
+-- the bytes of a script have one answer
+abbrev pub HasOneAnswer : Type 0
+HasOneAnswer = (bytes : List ℕ) → (answer : Answer) × IsAnswer bytes answer × ((other : Answer) → IsAnswer bytes other → other ≡ answer)
+
+-- the bytes have this first fault, no other and no tree
+abbrev pub HasFault : List ℕ → SourceFault → Type 0
+HasFault bytes f = HasFirstFault bytes (Some f) × ((g : SourceFault) → HasFirstFault bytes (Some g) → g ≡ f) × ((t : Tree) → IsTreeOf bytes t → ⊥)
+
+-- they have this tree, no other and no first fault
+abbrev pub HasTree : List ℕ → Tree → Type 0
+HasTree bytes t = IsTreeOf bytes t × ((u : Tree) → IsTreeOf bytes u → u ≡ t) × ((f : SourceFault) → HasFirstFault bytes (Some f) → ⊥)
+
+abbrev pub HasReading : List ℕ → Type 0
+HasReading bytes = ((f : SourceFault) × HasFault bytes f) ⊎ ((t : Tree) × HasTree bytes t)
+
+-- the bytes have a first fault or a tree, one alone, and not both
+abbrev pub HasOneReading : Type 0
+HasOneReading = (bytes : List ℕ) → HasReading bytes
 
 -- what each of these statuses says of the whole file
-abbrev pub IsRightFor : List ℕ → SinkChange → Status → Type 0
-IsRightFor whole out status.Finished = (output : List ℕ) × FirstOutput whole output × TookOutput out (Finishes output)
-IsRightFor whole out status.Refused = IsNotFirstForm whole
-IsRightFor whole out status.Usage = ⊥
-IsRightFor whole out status.Thrown = ⊥
-IsRightFor whole out status.BudgetEnded = ⊥
-IsRightFor whole out status.ReadFault = ⊤
-IsRightFor whole out status.WriteFault = ⊤
-IsRightFor whole out status.NoMemory = ⊤
+abbrev pub IsRightFor : List ℕ → SinkChange → SinkChange → Status → Type 0
+IsRightFor whole out err status.Finished = (output : List ℕ) × IsAnswer whole (Finishes output) × TookOutput out (Finishes output)
+IsRightFor whole out err status.Refused = (answer : Answer) × IsRefusal answer × IsAnswer whole answer × TookNote err (note_of answer)
+IsRightFor whole out err status.Usage = ⊥
+IsRightFor whole out err status.Thrown = ⊥
+IsRightFor whole out err status.BudgetEnded = ⊥
+IsRightFor whole out err status.ReadFault = ⊤
+IsRightFor whole out err status.WriteFault = ⊤
+IsRightFor whole out err status.NoMemory = ⊤
 
 -- where the files tell these bytes under the word, the statuses speak of all of them, although no more than a part is read
 abbrev pub SpeaksOfWholeFile : Type 0
 SpeaksOfWholeFile =
     (words : List (List ℕ)) (files : FilesChange) (out err : SinkChange) (ended : Status) (all : List (List ℕ × List ℕ)) (name whole : List ℕ)
-    → Leaves words files out err ended → files.held ≡ Some all → file_of words ≡ Some name → bytes_named all name ≡ Some whole → IsRightFor whole out ended
+    → Leaves words files out err ended → files.held ≡ Some all → file_of words ≡ Some name → bytes_named all name ≡ Some whole → IsRightFor whole out err ended

@@ -1,12 +1,12 @@
 -- What a call of the host leaves, status by status.
-use Rattle.std.specs.Prelude.{◌≡◌, ◌⊎◌, ◌∷◌, ◌==◌, [], ℕ, zero, suc, List, Option, Some, None, codes, if◌then◌else◌}
+use Rattle.std.specs.Prelude.{◌≡◌, ◌⊎◌, ◌∷◌, ◌==◌, [], ℕ, zero, suc, List, Option, Some, None, codes, ⊤, if◌then◌else◌}
 use Rattle.std.specs.Io.KnownBytes.{Appends, Keeps}
 use Rattle.property_keys.specs.Counts.{counted}
 use Rattle.hc_outside.specs.Causes.{Rises}
 use Rattle.hc_outside.specs.Sinks.{AppendsFront}
 use Rattle.script_host.specs.declared.status.Status.{Status}
 use Rattle.script_host.specs.declared.status.Status.TheVariants as status
-use Rattle.script_host.specs.Answers.{Answer, Finishes, Misuses, Refuses, CannotRead, output_of, note_of, FilesChange, IsAsked}
+use Rattle.script_host.specs.Answers.{Answer, Finishes, Misuses, Faults, Unbuilt, CannotRead, output_of, note_of, FilesChange, IsAsked}
 use Rattle.script_host.specs.FileBytes.{AsksOnce}
 
 -- what a sink tells: the bytes held, how many writes and how many flushes answered Ok, and its count of faults
@@ -85,10 +85,19 @@ abbrev pub LeavesNote : List (List ℕ) → FilesChange → SinkChange → Type 
 LeavesNote words files err =
     TookFront err memory_note ⊎ TookFront err write_note ⊎ ((answer : Answer) × IsAsked words files answer × TookFront err (note_of answer))
 
+-- an answer that refuses the script, for a fault or for an item that does not run yet
+abbrev pub IsRefusal : Answer → Type 0
+IsRefusal (Faults fault) = ⊤
+IsRefusal (Unbuilt place) = ⊤
+IsRefusal (Finishes output) = ⊥
+IsRefusal Misuses = ⊥
+IsRefusal (CannotRead name) = ⊥
+
 abbrev pub Leaves : List (List ℕ) → FilesChange → SinkChange → SinkChange → Status → Type 0
 Leaves words files out err status.Finished = (output : List ℕ) × IsAsked words files (Finishes output) × TookOutput out (Finishes output) × Untouched err
 Leaves words files out err status.Usage = IsAsked words files Misuses × TookOutput out Misuses × TookNote err (note_of Misuses)
-Leaves words files out err status.Refused = IsAsked words files Refuses × TookOutput out Refuses × TookNote err (note_of Refuses)
+Leaves words files out err status.Refused =
+    (answer : Answer) × IsRefusal answer × IsAsked words files answer × TookOutput out answer × TookNote err (note_of answer)
 Leaves words files out err status.ReadFault =
     (name : List ℕ) × IsAsked words files (CannotRead name) × TookOutput out (CannotRead name) × TookNote err (note_of (CannotRead name))
 Leaves words files out err status.WriteFault = (answer : Answer) × IsAsked words files answer × CannotWrite answer out err

@@ -1,12 +1,14 @@
 pub mod Answers
+pub mod Digits
 pub mod FileBytes
-pub mod FirstForm
+pub mod FirstItems
 pub mod FirstObject
 pub mod FirstOutput
 pub mod FirstRun
+pub mod FirstTrees
 pub mod Laws
 pub mod Leaves
+pub mod Names
 pub mod Reading
 pub mod Settling
-pub mod Spans
 pub mod Statuses

@@ -3,8 +3,8 @@ ghost use Rattle.property_keys.specs.Counts.{TakesAtMost};
 ghost use Rattle.hc_outside.specs.Causes.{HasCause};
 ghost use Rattle.script_host.specs.FileBytes.{IsReadOf, AsksOnce};
 
-use crate::first_form::MOST_BYTES;
 use hc_outside::{Fault, Files, Text};
+use script_syntax::MOST_BYTES;
 use std::alloc::Global;
 
 /// A file is read in parts of so many bytes.

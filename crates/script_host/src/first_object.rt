@@ -5,8 +5,7 @@ ghost use Rattle.script_host.specs.FirstOutput.{shown};
 ghost use Rattle.script_host.specs.Leaves.{line_count};
 ghost use Rattle.script_host.specs.FirstObject.{value_under, with_value, number_under, with_number, GoesTo, Grows};
 
-use crate::first_form::Word;
-use property_keys::{NoMemory, TextId, Texts, Units};
+use property_keys::{KeyFault, NoMemory, TextId, Texts, Units};
 use std::alloc::Global;
 use std::marker::Model;
 
@@ -17,7 +16,7 @@ struct Property {
     value: u64,
 }
 
-/// The object of a script of the first form.
+/// The object of a script that runs.
 #[derive(Drop)]
 pub struct FirstObject {
     alloc: Global,
@@ -48,22 +47,22 @@ impl FirstObject {
     }
 
     /// Stores a number under a key, where it stands already or as the last one.
-    pub fn store(&mut self, key: &Word, value: u64) -> Result<(), NoMemory>
+    pub fn store(&mut self, key: &Units, value: u64) -> Result<(), NoMemory>
         requires { value ≤ most_whole }
         ensures ok { OnOk result (self.new ≡ with_value self.old key.now value) }
         ensures err { OnErr result (self.new ≡ self.old) }
     {
-        let id = self.texts.intern(key.units(self.alloc)?)?;
+        let id = self.texts.intern(copy(self.alloc, key)?)?;
         put(&mut self.properties, id, value)
     }
 
     /// The line that `print` writes of a key.
-    pub fn line(&mut self, key: &Word) -> Result<Vec<u8>, NoMemory>
+    pub fn line(&mut self, key: &Units) -> Result<Vec<u8>, NoMemory>
         ensures line { IfOk result (λ line. line.items ≡ shown (value_under self.old key.now) ++ codes "\n") }
         ensures one { IfOk result (λ line. line_count line.items ≡ 1) }
         ensures same { self.new ≡ self.old }
     {
-        let id = self.texts.intern(key.units(self.alloc)?)?;
+        let id = self.texts.intern(copy(self.alloc, key)?)?;
         match number_of(&self.properties, id) {
             Some(value) => number_line(self.alloc, &mut self.texts, value),
             None => undefined_line(self.alloc),
@@ -149,4 +148,19 @@ fn ascii_line(alloc: Global, units: &Units) -> Result<Vec<u8>, NoMemory>
         Ok(()) => Ok(line),
         Err(_) => Err(NoMemory),
     }
+}
+
+// A copy of a text.
+fn copy(alloc: Global, text: &Units) -> Result<Units, NoMemory>
+    ensures { IfOk result (λ copy. copy ≡ text.now) }
+{
+    let mut units = Units::new(alloc);
+    for i in 0..text.len() {
+        match units.push(text.unit(i)) {
+            Ok(()) => {}
+            Err(KeyFault::NoMemory) => return Err(NoMemory),
+            Err(KeyFault::TooLong) => unreachable!(),
+        }
+    }
+    Ok(units)
 }

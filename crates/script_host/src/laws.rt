@@ -1,10 +1,15 @@
 //! Laws of the definitions that the contracts cite, each the contract of a function that does nothing.
 
-ghost use Rattle.script_host.specs.Laws.{PrintsOneOutput, SpeaksOfWholeFile};
+ghost use Rattle.script_host.specs.Laws.{HasOneAnswer, HasOneReading, SpeaksOfWholeFile};
 
-/// A file of the first form has one output.
-pub fn prints_one_output()
-    ensures { PrintsOneOutput }
+/// The bytes of a script have a first fault or a tree: one alone, and not both.
+pub fn one_reading_each()
+    ensures { HasOneReading }
+{}
+
+/// The bytes of a script have one answer: a first fault, or an item that does not run yet, or an output.
+pub fn one_answer_each()
+    ensures { HasOneAnswer }
 {}
 
 /// Where the files tell the bytes under the word, `Finished` and `Refused` speak of all of these bytes, and no other status but those

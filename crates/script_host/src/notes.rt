@@ -1,20 +1,20 @@
-ghost use Rattle.std.specs.Prelude.{◌≡◌, IfOk, OnOk, string_bytes};
+ghost use Rattle.std.specs.Prelude.{◌≡◌, ℕ, List, IfOk, OnOk, string_bytes};
 ghost use Rattle.property_keys.specs.Counts.{counted};
 ghost use Rattle.hc_outside.specs.Causes.{HasCause};
 ghost use Rattle.hc_outside.specs.Sinks.{Writes};
-ghost use Rattle.script_host.specs.Answers.{note_of, CannotRead};
+ghost use Rattle.script_rules.specs.Faults.{code_number};
+ghost use Rattle.script_host.specs.Answers.{fault_name, note_of, CannotRead, Faults, Unbuilt};
 ghost use Rattle.script_host.specs.Leaves.{change, sink_view, TookFront, memory_note};
-ghost use Rattle.script_host.specs.Settling.{EndsNoted};
+ghost use Rattle.script_host.specs.Settling.{EndsMade, EndsNoted};
 
 use crate::Status;
+use es_model::{FaultCode, Place, SourceFault};
 use hc_outside::{Fault, Sink, Text};
 use property_keys::NoMemory;
 use std::alloc::Global;
 use std::convert::AsStr;
 
 pub const USAGE: &[u8] = b"hcjs: usage: hcjs FILE\n";
-
-pub const REFUSED: &[u8] = b"hcjs: not of the first form\n";
 
 pub const CANNOT_WRITE: &[u8] = b"hcjs: cannot write\n";
 
@@ -28,6 +28,65 @@ pub fn cannot_read(alloc: Global, name: &Text) -> Result<String, NoMemory>
     match format!(in alloc; "hcjs: cannot read {name}\n") {
         Ok(note) => Ok(note),
         Err(_) => Err(NoMemory),
+    }
+}
+
+/// The note on the first fault of a script.
+pub fn faulty(alloc: Global, fault: SourceFault) -> Result<String, NoMemory>
+    ensures { IfOk result (λ note. string_bytes note ≡ note_of (Faults fault)) }
+{
+    let SourceFault { code, line, column } = fault;
+    let number = number_of(code);
+    let name = name_of(code);
+    match format!(in alloc; "hcjs: {line}:{column}: fault {number} {name}\n") {
+        Ok(note) => Ok(note),
+        Err(_) => Err(NoMemory),
+    }
+}
+
+// The number of a code, from 1.
+fn number_of(code: FaultCode) -> u8
+    ensures { result ≡ code_number code }
+{
+    code as u8
+}
+
+fn name_of(code: FaultCode) -> &'static str
+    ensures { result.now ≡ fault_name code }
+{
+    match code {
+        FaultCode::TooLong => "TooLong",
+        FaultCode::NotUtf8 => "NotUtf8",
+        FaultCode::BadToken => "BadToken",
+        FaultCode::Unexpected => "Unexpected",
+        FaultCode::TooDeep => "TooDeep",
+        FaultCode::Duplicate => "Duplicate",
+        FaultCode::Capture => "Capture",
+        FaultCode::BadBinding => "BadBinding",
+        FaultCode::Misplaced => "Misplaced",
+    }
+}
+
+/// The note on an item that does not run yet.
+pub fn not_built(alloc: Global, place: Place) -> Result<String, NoMemory>
+    ensures { IfOk result (λ note. string_bytes note ≡ note_of (Unbuilt place)) }
+{
+    let Place { line, column } = place;
+    match format!(in alloc; "hcjs: {line}:{column}: not built\n") {
+        Ok(note) => Ok(note),
+        Err(_) => Err(NoMemory),
+    }
+}
+
+/// Writes a note that was made, and ends with this status where the error output takes it.
+pub fn ended_with<E: Sink>(err: &mut E, note: Result<String, NoMemory>, wanted: Status) -> Status
+    ensures { (text : List ℕ) → IfOk note (λ made. string_bytes made ≡ text)
+        → EndsMade (change (sink_view (E.held err.old) (E.writes err.old) (E.flushes err.old) (E.faults err.old))
+        (sink_view (E.held err.new) (E.writes err.new) (E.flushes err.new) (E.faults err.new))) text wanted result }
+{
+    match note {
+        Ok(note) => ended(err, note.as_bytes(), wanted),
+        Err(NoMemory) => out_of_memory(err),
     }
 }
 

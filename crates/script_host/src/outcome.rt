@@ -1,27 +1,38 @@
-ghost use Rattle.std.specs.Prelude.{◌≡◌, ◌+◌, true};
-ghost use Rattle.std.specs.List.{list_all};
+ghost use Rattle.std.specs.Prelude.{◌≡◌, ◌+◌};
 ghost use Rattle.std.specs.Io.KnownBytes.{Keeps};
 ghost use Rattle.property_keys.specs.Counts.{TakesAtMost};
 ghost use Rattle.hc_outside.specs.Causes.{CountsAnswer};
 ghost use Rattle.script_host.specs.Answers.{file_of, files_change};
-ghost use Rattle.script_host.specs.FirstForm.{is_line};
+ghost use Rattle.script_host.specs.FirstItems.{lines_of};
 ghost use Rattle.script_host.specs.FirstOutput.{printed};
 ghost use Rattle.script_host.specs.Leaves.{change, sink_view, line_count, AsksFor};
-ghost use Rattle.script_host.specs.Settling.{HasWriteCause, Puts, Settles};
+ghost use Rattle.script_host.specs.Settling.{HasWriteCause, Puts, Settles, SettlesScript};
 
 use crate::file_bytes::read_file;
-use crate::first_form::{FirstLine, FormStop, MOST_BYTES, read_first_form};
-use crate::first_run::{RunStop, run_lines};
+use crate::first_run::{RunStop, run_script};
+use crate::reading::read_script;
+use crate::unfinished::unbuilt;
 use crate::words::file_word;
+use es_model::{Checked, Place, SourceFault};
 use hc_outside::{Fault, Files, Sink, Text};
+use script_syntax::{MOST_BYTES, ReadStop};
 use std::alloc::Global;
+
+/// How a script ends.
+pub enum Ending {
+    /// It ran to its end.
+    Finished,
+    /// It has this first fault.
+    Faulty(SourceFault),
+    /// It has no fault, and an item that does not run yet.
+    Unbuilt(Place),
+}
 
 /// What the words and the file ask for.
 pub enum Outcome<'a> {
-    Finished,
     Usage,
-    Refused,
     CannotRead(&'a Text),
+    Script(Ending),
 }
 
 /// Why the output is not whole.
@@ -48,17 +59,10 @@ pub fn settle<'a, F: Files, O: Sink>(
         return Ok(Outcome::Usage);
     };
     match read_file(alloc, files, name) {
-        Ok(bytes) => match read_first_form(alloc, &bytes) {
-            Ok(lines) => {
-                run_to_end(alloc, &lines, out)?;
-                Ok(Outcome::Finished)
-            }
-            Err(FormStop::NotOfFirstForm) => {
-                flush(out)?;
-                Ok(Outcome::Refused)
-            }
-            Err(FormStop::NoMemory) => Err(flush_without_memory(out)),
-        },
+        Ok(bytes) => {
+            let ending = settle_script(alloc, &bytes, out)?;
+            Ok(Outcome::Script(ending))
+        }
         Err(Fault::Failed) => {
             flush(out)?;
             Ok(Outcome::CannotRead(name))
@@ -67,14 +71,37 @@ pub fn settle<'a, F: Files, O: Sink>(
     }
 }
 
-// Runs the lines, and flushes what they print.
-fn run_to_end<O: Sink>(alloc: Global, lines: &[FirstLine], out: &mut O) -> Result<(), WriteStop>
-    requires { list_all is_line lines.now ≡ true }
+// Reads the bytes of a script, runs it, and flushes the output.
+fn settle_script<O: Sink>(alloc: Global, bytes: &[u8], out: &mut O) -> Result<Ending, WriteStop>
+    ensures { SettlesScript bytes.now (change (sink_view (O.held out.old) (O.writes out.old) (O.flushes out.old) (O.faults out.old))
+        (sink_view (O.held out.new) (O.writes out.new) (O.flushes out.new) (O.faults out.new))) result }
+{
+    match read_script(alloc, bytes) {
+        Ok(script) => match unbuilt(&script) {
+            Some(place) => {
+                flush(out)?;
+                Ok(Ending::Unbuilt(place))
+            }
+            None => {
+                run_to_end(alloc, &script, out)?;
+                Ok(Ending::Finished)
+            }
+        },
+        Err(ReadStop::Fault(fault)) => {
+            flush(out)?;
+            Ok(Ending::Faulty(fault))
+        }
+        Err(ReadStop::NoMemory) => Err(flush_without_memory(out)),
+    }
+}
+
+// Runs a script, and flushes what it prints.
+fn run_to_end<O: Sink>(alloc: Global, script: &Checked, out: &mut O) -> Result<(), WriteStop>
     ensures { Puts (change (sink_view (O.held out.old) (O.writes out.old) (O.flushes out.old) (O.faults out.old))
         (sink_view (O.held out.new) (O.writes out.new) (O.flushes out.new) (O.faults out.new)))
-        (line_count (printed lines.now)) (printed lines.now) result }
+        (line_count (printed (lines_of script.now))) (printed (lines_of script.now)) result }
 {
-    match run_lines(alloc, lines, out) {
+    match run_script(alloc, script, out) {
         Ok(()) => flush(out),
         Err(RunStop::Sink(Fault::Failed)) => Err(WriteStop::WriteFault),
         Err(RunStop::Sink(Fault::NoMemory)) => Err(WriteStop::NoMemory),

@@ -3,12 +3,14 @@ ghost use Rattle.property_keys.specs.Counts.{TakesAtMost};
 ghost use Rattle.script_host.specs.Answers.{file_of, files_change};
 ghost use Rattle.script_host.specs.Leaves.{change, sink_view, AsksFor, Leaves};
 
-use crate::first_form::MOST_BYTES;
-use crate::notes::{CANNOT_WRITE, REFUSED, USAGE, cannot_read, ended, out_of_memory};
-use crate::outcome::{Outcome, WriteStop, settle};
+use crate::notes::{
+    CANNOT_WRITE, USAGE, cannot_read, ended, ended_with, faulty, not_built, out_of_memory,
+};
+use crate::outcome::{Ending, Outcome, WriteStop, settle};
 use crate::status::Status;
 use hc_outside::{Files, Sink, Text};
 use property_keys::{Ledger, Steps};
+use script_syntax::MOST_BYTES;
 use std::alloc::Global;
 
 /// Runs the script that the words name.
@@ -33,13 +35,19 @@ pub fn hcjs<F: Files, O: Sink, E: Sink, L: Ledger>(
     ensures reads { TakesAtMost (MOST_BYTES + 1) (F.reads files.old) (F.reads files.new) }
 {
     match settle(alloc, words, files, out) {
-        Ok(Outcome::Finished) => Status::Finished,
+        Ok(Outcome::Script(Ending::Finished)) => Status::Finished,
         Ok(Outcome::Usage) => ended(err, USAGE, Status::Usage),
-        Ok(Outcome::Refused) => ended(err, REFUSED, Status::Refused),
-        Ok(Outcome::CannotRead(name)) => match cannot_read(alloc, name) {
-            Ok(note) => ended(err, note.as_bytes(), Status::ReadFault),
-            Err(_) => out_of_memory(err),
-        },
+        Ok(Outcome::Script(Ending::Faulty(fault))) => {
+            ended_with(err, faulty(alloc, fault), Status::Refused)
+        }
+        Ok(Outcome::Script(Ending::Unbuilt(place))) => {
+            ended_with(err, not_built(alloc, place), Status::Refused)
+        }
+        Ok(Outcome::CannotRead(name)) => ended_with(
+            err,
+            cannot_read(alloc, name),
+            Status::ReadFault,
+        ),
         Err(WriteStop::WriteFault) => ended(err, CANNOT_WRITE, Status::WriteFault),
         Err(WriteStop::NoMemory) => out_of_memory(err),
     }

@@ -11,8 +11,8 @@ invariant-parts g l = record {
   whole : Begins (g.F.Files.held l.fn.files) l.name (g.F.Files.left l.initial.files l.file.0);
   names : g.F.Files.asked l.files ≡ g.F.Files.asked l.fn.files ++ l.name ∷ [];
   count : g.F.Files.faults l.files ≡ g.F.Files.faults l.fn.files;
-  reads : TakesAtMost (min (vec_len l.bytes) 4097) (g.F.Files.reads l.fn.files) (g.F.Files.reads l.files);
+  reads : TakesAtMost (min (vec_len l.bytes) 4194305) (g.F.Files.reads l.fn.files) (g.F.Files.reads l.files);
 }
 
 abbrev pub decreases-parts : goal.decreases-parts
-decreases-parts g l = 4097 - vec_len l.bytes
+decreases-parts g l = 4194305 - vec_len l.bytes

@@ -21,7 +21,7 @@ returns-in-Some-clause-line c =
     let found : number_under c.self.inside.properties.items c.in_ok-id.id.0 ≡ Some c.in-Some.value =
     rw c.deref.ensures.value at (sym c.number_of.ensures ∙ c.in-Some.is) in
     let shown : value_under c.args.self.now c.args.key.now ≡ Some c.in-Some.value =
-    sym (shows _ _ _ _ _ _ c.self.invariant (rw c.in_ok-units.ensures at c.in_ok-id.ensures) c.self.view_is) ∙ found in
+    sym (shows _ _ _ _ _ _ c.self.invariant (rw c.in_ok-copy.ensures at c.in_ok-id.ensures) c.self.view_is) ∙ found in
     rw shown c.number_line.ensures.line
 
 pub returns-in-Some-clause-same : goal.returns-in-Some-clause-same
@@ -34,7 +34,7 @@ returns-in-None-clause-line c =
     let found : number_under c.self.inside.properties.items c.in_ok-id.id.0 ≡ None =
     rw c.deref.ensures.value at (sym c.number_of.ensures ∙ c.in-None.is) in
     let shown : value_under c.args.self.now c.args.key.now ≡ None =
-    sym (shows _ _ _ _ _ _ c.self.invariant (rw c.in_ok-units.ensures at c.in_ok-id.ensures) c.self.view_is) ∙ found in
+    sym (shows _ _ _ _ _ _ c.self.invariant (rw c.in_ok-copy.ensures at c.in_ok-id.ensures) c.self.view_is) ∙ found in
     rw shown c.undefined_line.ensures.line
 
 pub returns-in-None-clause-same : goal.returns-in-None-clause-same

@@ -1,0 +1,18 @@
+//! The whole reading of a script.
+
+ghost use Rattle.script_host.specs.Reading.{ReadsScript};
+
+use es_model::Checked;
+use script_checker::check;
+use script_parser::parse;
+use script_syntax::{ReadStop, tokens};
+use std::alloc::Global;
+
+/// The tree of a script's bytes, or their first fault: of length, of decoding or of tokens, else of the grammar, else of the static rules.
+pub fn read_script(alloc: Global, bytes: &[u8]) -> Result<Checked, ReadStop>
+    ensures { ReadsScript bytes.now result }
+{
+    let tokens = tokens(alloc, bytes)?;
+    let script = parse(alloc, &tokens)?;
+    check(alloc, script)
+}

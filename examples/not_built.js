@@ -1,0 +1,3 @@
+let o = {};
+o.a = 7;
+print(o.a); print(o["a"]);

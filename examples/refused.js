@@ -1,0 +1,3 @@
+let o = {};
+o.a = 07;
+print(o.a);
