@@ -7,7 +7,7 @@ pub enum Status {
     Thrown,
     /// The words are not of the command's form.
     Usage,
-    /// The file is outside the grammar that runs.
+    /// The file has a fault, or an item that does not run yet.
     Refused,
     /// The budget of turns ended before the script.
     BudgetEnded,

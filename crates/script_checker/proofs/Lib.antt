@@ -1,0 +1,9 @@
+pub mod Plans
+pub mod OwnWalks
+pub mod LastOnes
+pub mod Entering
+pub mod Known
+pub mod Good
+pub mod Checked
+pub mod Steps
+pub mod Visiting

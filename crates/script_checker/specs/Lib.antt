@@ -1,0 +1,12 @@
+pub mod Stacks
+pub mod Own
+pub mod OwnWalk
+pub mod Values
+pub mod Made
+pub mod Firsts
+pub mod Spots
+pub mod Making
+pub mod Machine
+pub mod Settings
+pub mod Driving
+pub mod Contract

@@ -1,0 +1,12 @@
+use crate::Setting;
+use es_model::Place;
+
+/// A part whose parts are done: what stands around it and around its parts, the place of its first token, and the numbers of its first and its last part.
+#[derive(Clone, Copy, Debug, PartialEq, Eq)]
+pub struct Spot {
+    pub around: Setting,
+    pub inner: Setting,
+    pub place: Place,
+    pub first: u32,
+    pub last: u32,
+}

@@ -1,0 +1,13 @@
+pub mod Parts
+pub mod Lists
+pub mod NameTables
+pub mod SameText
+pub mod Chains
+pub mod NamePlaces
+pub mod Earliest
+pub mod Walks
+pub mod Seen
+pub mod Steps
+pub mod Visits
+pub mod Whole
+pub mod Below

@@ -1,0 +1,13 @@
+pub mod Arena
+pub mod Names
+pub mod Splits
+pub mod Bounds
+pub mod Scopes
+pub mod Chains
+pub mod Wanted
+pub mod Faults
+pub mod Order
+pub mod Seen
+pub mod Walks
+pub mod Visits
+pub mod FirstFault

@@ -1,0 +1,9 @@
+use es_model::Binding;
+
+/// What a name is bound to, as far as a body may use it.
+#[derive(Clone, Copy, Debug, PartialEq, Eq)]
+pub enum Resolved {
+    Finds(Binding),
+    /// The name is that of a function around, or of a block at the script's own level.
+    Captures,
+}
