@@ -1,5 +1,5 @@
 -- The syntax tree in a list of nodes: a child's number is below its parent's.
-use Rattle.std.specs.Prelude.{◌≡◌, ◌<◌, ◌++◌, ◌∷◌, [], ◌^◌, ⊤, ℕ, false, List, Option, Some, None, flat_map, length, slice_get, option_to_list}
+use Rattle.std.specs.Prelude.{◌≡◌, ◌<◌, ◌++◌, ◌∷◌, [], ◌^◌, ⊤, ℕ, Bool, false, List, Option, Some, None, flat_map, length, slice_get, option_to_list}
 use Rattle.std.specs.List.{AllByRecursion}
 use Rattle.es_model.specs.declared.numbers.FunctionNo.{FunctionNo}
 use Rattle.es_model.specs.declared.numbers.NodeId.{NodeId}
@@ -31,7 +31,7 @@ use Rattle.es_model.specs.declared.facts.LiteralFacts.{LiteralFacts}
 use Rattle.es_model.specs.declared.facts.SiteFacts.{SiteFacts}
 
 -- The nodes of a script with the places of their first tokens, its functions with their code, its object literals and its sites, each named by its place, and
--- the script's own code.
+-- the script's own code, and whether that is strict.
 pub record Tree : Type 0 where
   pub nodes : List Node
   pub places : List Place
@@ -40,9 +40,10 @@ pub record Tree : Type 0 where
   pub literals : List LiteralFacts
   pub sites : List SiteFacts
   pub script : Body
+  pub strict : Bool
 
-abbrev pub tree_of : List Node → List Place → List FunctionFacts → List Body → List LiteralFacts → List SiteFacts → Body → Tree
-tree_of all_nodes all_places all_functions all_bodies all_literals all_sites code = record {
+abbrev pub tree_of : List Node → List Place → List FunctionFacts → List Body → List LiteralFacts → List SiteFacts → Body → Bool → Tree
+tree_of all_nodes all_places all_functions all_bodies all_literals all_sites code is_strict_code = record {
   nodes = all_nodes;
   places = all_places;
   functions = all_functions;
@@ -50,6 +51,7 @@ tree_of all_nodes all_places all_functions all_bodies all_literals all_sites cod
   literals = all_literals;
   sites = all_sites;
   script = code;
+  strict = is_strict_code;
 }
 
 -- a script without items
@@ -57,7 +59,7 @@ abbrev pub empty_body : Body
 empty_body = record { name = None; names = 0; arguments = false; declared = []; items = [] }
 
 abbrev pub empty_tree : Tree
-empty_tree = tree_of [] [] [] [] [] [] empty_body
+empty_tree = tree_of [] [] [] [] [] [] empty_body false
 
 -- how many lexical names the script's top scope has (16.1.7)
 abbrev pub top_names : Tree → ℕ

@@ -19,6 +19,7 @@ pub struct Checked {
     literals: Vec<LiteralFacts>,
     sites: Vec<SiteFacts>,
     script: Body,
+    strict: bool,
 }
 
 impl Model for Checked {
@@ -26,9 +27,9 @@ impl Model for Checked {
 
     ghost Value = { Tree };
 
-    ghost view = { λ c. tree_of c.nodes.items c.places.items c.functions.items c.bodies.items c.literals.items c.sites.items c.script };
+    ghost view = { λ c. tree_of c.nodes.items c.places.items c.functions.items c.bodies.items c.literals.items c.sites.items c.script c.strict };
 
-    ghost invariant = { λ c. IsTree (tree_of c.nodes.items c.places.items c.functions.items c.bodies.items c.literals.items c.sites.items c.script) };
+    ghost invariant = { λ c. IsTree (tree_of c.nodes.items c.places.items c.functions.items c.bodies.items c.literals.items c.sites.items c.script c.strict) };
 }
 
 impl Checked {
@@ -41,9 +42,10 @@ impl Checked {
         literals: Vec<LiteralFacts>,
         sites: Vec<SiteFacts>,
         script: Body,
+        strict: bool,
     ) -> Checked
-        requires { IsTree (tree_of nodes.items places.items functions.items bodies.items literals.items sites.items script) }
-        ensures { result ≡ tree_of nodes.items places.items functions.items bodies.items literals.items sites.items script }
+        requires { IsTree (tree_of nodes.items places.items functions.items bodies.items literals.items sites.items script strict) }
+        ensures { result ≡ tree_of nodes.items places.items functions.items bodies.items literals.items sites.items script strict }
     {
         Checked {
             nodes,
@@ -53,6 +55,7 @@ impl Checked {
             literals,
             sites,
             script,
+            strict,
         }
     }
 
@@ -97,6 +100,13 @@ impl Checked {
         ensures tree { IsTree self.now }
     {
         &self.script
+    }
+
+    /// Whether the script's own code is strict (ECMA-262, 11.2.2). Of a function its facts say so.
+    pub fn strict(&self) -> bool
+        ensures { result ≡ self.now.strict }
+    {
+        self.strict
     }
 
     /// The code of the function with a known number.

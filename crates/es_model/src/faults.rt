@@ -11,7 +11,7 @@ pub enum FaultCode {
     Unexpected = 4,
     /// The token stands in too many productions.
     TooDeep = 5,
-    /// A name is bound twice in one scope.
+    /// A name is bound twice in one scope, or `__proto__` is written twice in one object literal.
     Duplicate = 6,
     /// A function uses a local name of the code around it.
     Capture = 7,

@@ -1,5 +1,5 @@
 -- What the machine makes of a script is the script's tree.
-use Rattle.std.proofs.Common.{◌≡◌, ◌∙◌, ap, sym, refl, subst, ℕ, List, [], None}
+use Rattle.std.proofs.Common.{◌≡◌, ◌∙◌, ap, sym, refl, subst, ℕ, Bool, List, [], None}
 use Rattle.es_model.specs.Tree.{IsTree}
 use Rattle.script_grammar.specs.declared.leaf.Leaf.{Leaf}
 use Rattle.script_grammar.specs.Tree.{Tree}
@@ -22,14 +22,14 @@ pub around_entered : (leaves : List Leaf) (x : Tree) (old new : List (List Scope
     → set.strict ≡ is_strict leaves x → set.role ≡ role.Plain → around_of new set ≡ around_script leaves x
 around_entered leaves x old new s set none e is strict plain = rw (e.chains, e.last, none, is, strict, plain) refl
 
-module _ (leaves : List Leaf) (x : Tree) (m : Machine) (a : Around) (names : ℕ) (is : a ≡ around_script leaves x) (ends : state m.values m.maker ≡ after leaves (Visit a x) (state [] nothing_made))
-    (count : names ≡ names_in a.scopes) where
+module _ (leaves : List Leaf) (x : Tree) (m : Machine) (a : Around) (names : ℕ) (strict : Bool) (is : a ≡ around_script leaves x) (ends : state m.values m.maker ≡ after leaves (Visit a x) (state [] nothing_made))
+    (count : names ≡ names_in a.scopes) (same : strict ≡ a.strict) where
   is_made : m.maker ≡ (made leaves (around_script leaves x) x nothing_made).made
   is_made = ap (λ s. s.made) ends ∙ ap (λ b. (made leaves b x nothing_made).made) is
 
   -- it is the tree of the definition
-  pub whole : tree_from m names ≡ checked_tree leaves x
-  whole = rw (ap (λ s. s.values) ends, is_made, count, is) refl
+  pub whole : tree_from m names strict ≡ checked_tree leaves x
+  whole = rw (ap (λ s. s.values) ends, is_made, count, same, is) refl
 
-  pub good : HasRoom m.maker → IsTree (tree_from m names)
+  pub good : HasRoom m.maker → IsTree (tree_from m names strict)
   good room = subst IsTree (sym whole) (good_script leaves x (subst HasRoom is_made room))

@@ -532,23 +532,23 @@ good_made (t.Quad f x y z w) leaves a m g =
 nothing_good : Good nothing_made
 nothing_good = record { places = refl; functions = refl; ordered = tt; names = tt; bodies = tt }
 
-any_code : (m : Made) (code : Body) (ns : List Node) → AllByRecursion (Names m) ns → AllByRecursion (NamesKnown (script_tree m code)) ns
-any_code m code [] h = tt
-any_code m code (n ∷ ns) h = (h.0, any_code m code ns h.1)
+any_code : (m : Made) (code : Body) (strict : Bool) (ns : List Node) → AllByRecursion (Names m) ns → AllByRecursion (NamesKnown (script_tree m code strict)) ns
+any_code m code strict [] h = tt
+any_code m code strict (n ∷ ns) h = (h.0, any_code m code strict ns h.1)
 
-any_body : (m : Made) (code : Body) (bs : List Body) → AllHold m bs → AllByRecursion (IsBody (script_tree m code)) bs
-any_body m code [] h = tt
-any_body m code (b ∷ bs) h = (record { items = h.0.items; declared = h.0.declared }, any_body m code bs h.1)
+any_body : (m : Made) (code : Body) (strict : Bool) (bs : List Body) → AllHold m bs → AllByRecursion (IsBody (script_tree m code strict)) bs
+any_body m code strict [] h = tt
+any_body m code strict (b ∷ bs) h = (record { items = h.0.items; declared = h.0.declared }, any_body m code strict bs h.1)
 
 -- what was made and room for it, with the script's own code, is a good tree
-pub script_good : (m : Made) (count : ℕ) (v : Value) → HasRoom m → Good m → KnownValue m v → IsTree (script_tree m (script_body count (parts_of v)))
-script_good m count v room g k =
+pub script_good : (m : Made) (count : ℕ) (strict : Bool) (v : Value) → HasRoom m → Good m → KnownValue m v → IsTree (script_tree m (script_body count (parts_of v)) strict)
+script_good m count strict v room g k =
     let code = script_body count (parts_of v) in
     record {
       counted = record { nodes = room.nodes; functions = room.functions; literals = room.literals; sites = room.sites; places = g.places; bodies = g.functions };
       ordered = ordered m.nodes g.ordered;
-      known = any_code m code m.nodes g.names;
-      bodies = any_body m code m.bodies g.bodies;
+      known = any_code m code strict m.nodes g.names;
+      bodies = any_body m code strict m.bodies g.bodies;
       script = record { items = nodes_below m (parts_of v) (parts_known m v k); declared = functions_there m (parts_of v) (parts_known m v k) };
     }
 
@@ -557,4 +557,4 @@ good_script leaves items room =
     let inner = around_script leaves items in
     let r = made leaves inner items nothing_made in
     let g : GoodPart nothing_made r = good_made items leaves inner nothing_made nothing_good in
-    script_good r.made (names_in inner.scopes) r.value room g.good g.value
+    script_good r.made (names_in inner.scopes) inner.strict r.value room g.good g.value

@@ -1,5 +1,5 @@
 -- What is made names only what was made before.
-use Rattle.std.proofs.Common.{◌≡◌, ◌<◌, ◌≤◌, ◌++◌, subst, ℕ, suc, zero, ◌+◌, List, [], ◌∷◌, length, length-append, Option, Some, None, slice_get, arith}
+use Rattle.std.proofs.Common.{◌≡◌, ◌<◌, ◌≤◌, ◌++◌, subst, ℕ, suc, zero, ◌+◌, false, List, [], ◌∷◌, length, length-append, Option, Some, None, slice_get, arith}
 use Rattle.std.specs.List.{AllByRecursion}
 use Rattle.es_model.specs.declared.body.Body.{Body}
 use Rattle.es_model.specs.declared.body.DeclaredFunction.{DeclaredFunction}
@@ -96,7 +96,7 @@ value_later (value.Many xs) m m' r k = items_later xs m m' r k
 -- ---- nodes, each of which names only what is there
 
 abbrev pub Names : Made → Node → Type 0
-Names m n = NamesKnown (script_tree m empty_body) n
+Names m n = NamesKnown (script_tree m empty_body false) n
 
 site_later : (o : Option SiteId) (k l : ℕ) → k ≤ l → elim o as (λ (x : Option SiteId). Type 0) [ None ↦ Unit {0} | Some s ↦ s.0 < k ] → elim o as (λ (x : Option SiteId). Type 0) [ None ↦ Unit {0} | Some s ↦ s.0 < l ]
 site_later None k l le h = tt
@@ -143,7 +143,7 @@ functions_later [] k l le h = tt
 functions_later (f ∷ fs) k l le h = (omega arith, functions_later fs k l le h.1)
 
 abbrev pub Holds : Made → Body → Type 0
-Holds m b = IsBody (script_tree m empty_body) b
+Holds m b = IsBody (script_tree m empty_body false) b
 
 body_later : (b : Body) (m m' : Made) → Reaches m m' → Holds m b → Holds m' b
 body_later b m m' r h = record {

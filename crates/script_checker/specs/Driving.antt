@@ -1,5 +1,5 @@
 -- The tasks of the machine that makes the tree of a script.
-use Rattle.std.specs.Prelude.{◌≡◌, ◌<◌, ℕ, ◌+◌, List, [], ◌∷◌}
+use Rattle.std.specs.Prelude.{◌≡◌, ◌<◌, ℕ, ◌+◌, Bool, List, [], ◌∷◌}
 use Rattle.es_model.specs.Tree.{Tree as Checked}
 use Rattle.script_grammar.specs.declared.node.Node.{Node}
 use Rattle.script_grammar.specs.Scripts.{Parts}
@@ -55,7 +55,7 @@ pub record Does (s : Parts) (old new : Machine) (k : Task) : Type 0 where
   pub same : end_of s new ≡ run s.leaves (step_of s.nodes old.scopes k ∷ steps_of s.nodes old.scopes old.tasks) (state old.values old.maker)
   pub less : left_of s new < work_of (step_of s.nodes old.scopes k) + left_of s old
 
--- ---- the tree of what the machine made, where the script's own code has so many names
+-- ---- the tree of what the machine made, where the script's own code has so many names, and is strict or not
 
-abbrev pub tree_from : Machine → ℕ → Checked
-tree_from m names = script_tree m.maker (script_body names (parts_of (top m.values).value))
+abbrev pub tree_from : Machine → ℕ → (strict : Bool) → Checked
+tree_from m names strict = script_tree m.maker (script_body names (parts_of (top m.values).value)) strict

@@ -509,12 +509,12 @@ around_script leaves items = around (script_scope leaves (declared_in items) ∷
 abbrev pub script_body : ℕ → List Item → Body
 script_body count items = record { name = None; names = count; arguments = false; declared = functions_in items; items = nodes_in items }
 
-abbrev pub script_tree : Made → Body → Checked
-script_tree m code = tree_of m.nodes m.places m.functions m.bodies m.literals m.sites code
+abbrev pub script_tree : Made → Body → (strict : Bool) → Checked
+script_tree m code strict = tree_of m.nodes m.places m.functions m.bodies m.literals m.sites code strict
 
 -- the tree of a script without a fault
 abbrev pub checked_tree : List Leaf → Tree → Checked
 checked_tree leaves items =
     let inner = around_script leaves items in
     let r = made leaves inner items nothing_made in
-    script_tree r.made (script_body (names_in inner.scopes) (parts_of r.value))
+    script_tree r.made (script_body (names_in inner.scopes) (parts_of r.value)) inner.strict

@@ -427,10 +427,10 @@ impl Machine {
         Ok(())
     }
 
-    /// The tree of what was made, with the script's own code, which has so many names.
-    pub fn finished(mut self, alloc: Global, names: u32) -> Result<Checked, NoMemory>
-        requires { HasRoom self.maker → IsTree (tree_from self names) }
-        ensures { IfOk result (λ c. c ≡ tree_from self names) }
+    /// The tree of what was made, with the script's own code, which has so many names and is strict or not.
+    pub fn finished(mut self, alloc: Global, names: u32, strict: bool) -> Result<Checked, NoMemory>
+        requires { HasRoom self.maker → IsTree (tree_from self names strict) }
+        ensures { IfOk result (λ c. c ≡ tree_from self names strict) }
     {
         let items = parts_of(alloc, taken(&mut self.values).value);
         let script = Body {
@@ -440,6 +440,6 @@ impl Machine {
             items: nodes_in(alloc, items.as_slice())?,
             declared: functions_in(alloc, items)?,
         };
-        Ok(self.maker.finish(script))
+        Ok(self.maker.finish(script, strict))
     }
 }

@@ -176,10 +176,10 @@ impl Maker {
         Ok(FunctionNo(number))
     }
 
-    /// The tree with the script's own code.
-    pub fn finish(self, script: Body) -> Checked
-        requires { HasRoom self → IsTree (script_tree self script) }
-        ensures { result ≡ script_tree self script }
+    /// The tree with the script's own code, and whether that is strict.
+    pub fn finish(self, script: Body, strict: bool) -> Checked
+        requires { HasRoom self → IsTree (script_tree self script strict) }
+        ensures { result ≡ script_tree self script strict }
     {
         let Maker {
             alloc: _,
@@ -190,7 +190,9 @@ impl Maker {
             literals,
             sites,
         } = self;
-        Checked::new(nodes, places, functions, bodies, literals, sites, script)
+        Checked::new(
+            nodes, places, functions, bodies, literals, sites, script, strict,
+        )
     }
 }
 

@@ -21,6 +21,7 @@ pub fn tree_text(alloc: Global, tree: &Checked) -> Result<String, AllocError> {
     push_literals(&mut out, tree)?;
     push_sites(&mut out, tree)?;
     out.push_str("script")?;
+    push_where(&mut out, tree.strict(), " strict")?;
     push_body(&mut out, tree.script())?;
     Ok(out)
 }

@@ -2,7 +2,7 @@
 
 use super::*;
 
-static FUNCTIONS: [Row; 7] = [
+static FUNCTIONS: [Row; 9] = [
     // `this.N = value` alone counts, each name once
     Row {
         source: "(function f(a, b) {\nthis.x = 1; this.x = a; (this).v = b;\nthis.z += 1; this[\"w\"] = 1; this.u++;\nf; });",
@@ -95,7 +95,20 @@ static FUNCTIONS: [Row; 7] = [
                3 1:30 return 2\n\
                function 0 1:37 parameters 0 this 0 constructor strict names 0 items []\n\
                function 1 1:15 parameters 0 this 0 constructor strict name f names 0 items [3]\n\
-               script names 0 items [1] declares f@global 1 last\n",
+               script strict names 0 items [1] declares f@global 1 last\n",
+    },
+    // neither in parentheses nor by an escape
+    Row {
+        source: "(\"use strict\");",
+        tree: "0 1:2 text \"use strict\"\n\
+               1 1:1 expression 0\n\
+               script names 0 items [1]\n",
+    },
+    Row {
+        source: "'use\\x20strict';",
+        tree: "0 1:1 text \"use strict\"\n\
+               1 1:1 expression 0\n\
+               script names 0 items [1]\n",
     },
     // strict by a directive of its own, which may be the second one, and has no parentheses, no escapes and no other statement before it
     Row {
