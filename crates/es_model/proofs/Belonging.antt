@@ -1,19 +1,22 @@
 -- What a frame keeps stays there while lists grow.
-use Rattle.std.proofs.Common.{ap, ◌∙◌, arith}
+use Rattle.std.proofs.Common.{ap, ◌∙◌, arith, subst, sym}
 use Rattle.property_keys.specs.declared.identifiers.SymbolId.{SymbolId}
 use Rattle.es_model.specs.declared.answers.Reply.{Reply}
 use Rattle.es_model.specs.declared.answers.Reply.TheVariants as reply
-use Rattle.es_model.specs.declared.answers.Completion.{Completion}
-use Rattle.es_model.specs.declared.answers.Completion.TheVariants.{Normal, Throw}
+use Rattle.es_model.specs.Completions.{Completion, Normal, Break, Continue, Return, Throw}
 use Rattle.es_model.specs.World.{Lists}
 use Rattle.es_model.specs.Changes.{changed}
-use Rattle.es_model.specs.Depth.{model, world_of}
+use Rattle.es_model.specs.Outcomes.{world_of}
+use Rattle.es_model.specs.Servers.{Programs, model_by}
 use Rattle.es_model.specs.Grows.{Grows}
 use Rattle.es_model.specs.Known.{IsObject, IsSymbol, IsKnown, IsKnownKey, IsKnownComplete}
 use Rattle.es_model.specs.Fits.{IsKnownReply}
-use Rattle.es_model.specs.Belongs.{FrameName, NamesObject, NamesKind, NamesValue, NamesKey, NamesProperty, NamesDescriptor, NamesCompletion, NamesText, NamesSymbol, NamesCell, IsKnownCompletion, HasName, NamesStay, ChangesKeepNames, KeepsNames}
+use Rattle.es_model.specs.Fits.{IsKnownCompletion}
+use Rattle.es_model.specs.Belongs.{FrameName, NamesObject, NamesKind, NamesValue, NamesKey, NamesProperty, NamesDescriptor, NamesCompletion, NamesText, NamesSymbol, NamesCell, NamesNode, NamesFunction, NamesSite, HasName, HasNames, NamesStay, ChangesKeepNames, KeepsNames}
 use Rattle.es_model.proofs.Growing.{grows-changed}
-use Rattle.es_model.proofs.Carried.{model-grows}
+use Rattle.es_model.proofs.Carried.{model-grows, model-script}
+use Rattle.es_model.proofs.Rests.{leaves-changed}
+use Rattle.es_tree.specs.Tree.{Tree}
 use Rattle.es_model.proofs.KnownLater.{all-map, there-map, object-later, text-later, cell-later, known-later, key-later, complete-later, descriptor-later}
 
 symbol-later : (l l' : Lists) → Grows l l' → (s : SymbolId) → IsSymbol l s → IsSymbol l' s
@@ -31,25 +34,34 @@ reply-later l l' g (reply.Wanted d) h = descriptor-later l l' g d h
 
 completion-later : (l l' : Lists) → Grows l l' → (c : Completion) → IsKnownCompletion l c → IsKnownCompletion l' c
 completion-later l l' g (Normal r) h = reply-later l l' g r h
+completion-later l l' g Break h = tt
+completion-later l l' g Continue h = tt
+completion-later l l' g (Return v) h = known-later l l' g v h
 completion-later l l' g (Throw v) h = known-later l l' g v h
 
-name-later : (l l' : Lists) → Grows l l' → (name : FrameName) → HasName l name → HasName l' name
-name-later l l' g (NamesObject o) h = object-later l l' g o h
-name-later l l' g (NamesKind o test) h = (object-later l l' g o h.0, ap test (g.kinds o h.0) ∙ h.1)
-name-later l l' g (NamesValue v) h = known-later l l' g v h
-name-later l l' g (NamesKey k) h = key-later l l' g k h
-name-later l l' g (NamesProperty c) h = complete-later l l' g c h
-name-later l l' g (NamesDescriptor d) h = descriptor-later l l' g d h
-name-later l l' g (NamesCompletion c) h = completion-later l l' g c h
-name-later l l' g (NamesText t) h = text-later l l' g t h
-name-later l l' g (NamesSymbol s) h = symbol-later l l' g s h
-name-later l l' g (NamesCell c) h = cell-later l l' g c h
+name-later : (script : Tree) (l l' : Lists) → Grows l l' → (name : FrameName) → HasName script l name → HasName script l' name
+name-later script l l' g (NamesObject o) h = object-later l l' g o h
+name-later script l l' g (NamesKind o test) h = (object-later l l' g o h.0, ap test (g.kinds o h.0) ∙ h.1)
+name-later script l l' g (NamesValue v) h = known-later l l' g v h
+name-later script l l' g (NamesKey k) h = key-later l l' g k h
+name-later script l l' g (NamesProperty c) h = complete-later l l' g c h
+name-later script l l' g (NamesDescriptor d) h = descriptor-later l l' g d h
+name-later script l l' g (NamesCompletion c) h = completion-later l l' g c h
+name-later script l l' g (NamesText t) h = text-later l l' g t h
+name-later script l l' g (NamesSymbol s) h = symbol-later l l' g s h
+name-later script l l' g (NamesCell c) h = cell-later l l' g c h
+name-later script l l' g (NamesNode n) h = h
+name-later script l l' g (NamesFunction f) h = h
+name-later script l l' g (NamesSite s) h = h
 
 pub names-stay : NamesStay
-names-stay names l l' g h = all-map (HasName l) (HasName l') (name-later l l' g) names h
+names-stay script names l l' g h = all-map (HasName script l) (HasName script l') (name-later script l l' g) names h
 
 pub changes-keep_names : ChangesKeepNames
-changes-keep_names names op w h = names-stay names w.lists (changed op w).lists (grows-changed op w) h
+changes-keep_names names op w h =
+    subst (λ script. HasNames script (changed op w).lists names) (sym (leaves-changed op w).script) (names-stay w.script names w.lists (changed op w).lists (grows-changed op w) h)
 
-pub model-keeps_names : KeepsNames model
-model-keeps_names names n t w h = names-stay names w.lists (world_of (model n t w)).lists (model-grows n t w) h
+pub model-keeps_names : (programs : Programs) → KeepsNames (model_by programs)
+model-keeps_names programs names n t w h =
+    let v = world_of (model_by programs n t w) in
+    subst (λ script. HasNames script v.lists names) (sym (model-script programs n t w)) (names-stay w.script names w.lists v.lists (model-grows programs n t w) h)

@@ -1,16 +1,23 @@
 -- What every change, charge and line keeps, every outcome keeps.
 use Rattle.std.proofs.Common.{◌≡◌, ℕ, zero, suc, Bool, true, false, cond, List, [], ◌++◌, refl, sym, subst, ap, ◌∙◌, nat_le, nat_lt}
 use Rattle.std.proofs.lemmas.List.{append-nil, append_assoc}
-use Rattle.es_model.specs.declared.answers.Completion.{Completion}
+use Rattle.es_model.specs.Completions.{Completion}
 use Rattle.es_model.specs.World.{World}
 use Rattle.es_model.specs.Changes.{Change, changed, charged, printed_more}
-use Rattle.es_model.specs.Program.{Program, done, look, change, charge, ask, part, nest, print, Task, Of, Outcome, Ended, Halt, Server, run, after, nested_limit}
-use Rattle.es_model.specs.Serve.{program_of, serve}
-use Rattle.es_model.specs.Depth.{world_of, depth_for, model}
+use Rattle.es_model.specs.Program.{Program, done, look, change, charge, ask, part, nest, print, Task, Of, Outcome, Ended, Halt, Server, run, one_more, plus, after, nested_limit}
+use Rattle.es_model.specs.Outcomes.{world_of}
+use Rattle.es_model.specs.Servers.{Programs, serve_by, depth_for, model_by}
 use Rattle.es_model.specs.Grows.{Grows, KeepsLists, KeepsScript, HasPrinted, KeepsPrinted}
 use Rattle.es_model.proofs.Rests.{leaves-changed, charged-script, charged-printed, printed-script, printed-more}
 use Rattle.es_model.proofs.Growing.{grows_none, grows_then, grows-changed, grows-charged, grows-printed}
-use Rattle.es_model.proofs.Runs.{world-one_more, world-plus}
+
+pub world-one_more : (o : Outcome) → world_of (one_more o) ≡ world_of o
+world-one_more (Ended c w n) = refl
+world-one_more (Halt w n) = refl
+
+pub world-plus : (n : ℕ) (o : Outcome) → world_of (plus n o) ≡ world_of o
+world-plus zero o = refl
+world-plus (suc n) o = world-one_more (plus n o) ∙ world-plus n o
 
 -- a relation of worlds that steps and their composition keep
 pub record IsCarried (R : World → World → Type 0) : Type 0 where
@@ -39,19 +46,20 @@ run-carried R r S s (charge t p) n w =
 run-carried R r S s (ask q k) n w =
     subst (R w) (sym (world-one_more (after (S n (Of q) w) (λ c v. run S (k c) n v))))
     (carried-after R r w (S n (Of q) w) (λ c v. run S (k c) n v) (s n (Of q) w) (λ c v. run-carried R r S s (k c) n v))
-run-carried R r S s (part t k) n w = carried-after R r w (S n t w) (λ c v. run S (k c) n v) (s n t w) (λ c v. run-carried R r S s (k c) n v)
+run-carried R r S s (part t k) n w =
+    subst (R w) (sym (world-one_more (after (S n t w) (λ c v. run S (k c) n v))))
+    (carried-after R r w (S n t w) (λ c v. run S (k c) n v) (s n t w) (λ c v. run-carried R r S s (k c) n v))
 run-carried R r S s (nest p q) n w =
     carried-cond R w (nat_lt n nested_limit) (run S p (suc n) w) (run S q n w) (run-carried R r S s p (suc n) w) (run-carried R r S s q n w)
 run-carried R r S s (print bytes p) n w =
     r.then w (printed_more w bytes) (world_of (run S p n (printed_more w bytes))) (r.print w bytes) (run-carried R r S s p n (printed_more w bytes))
 
-serve-carried : (R : World → World → Type 0) → IsCarried R → (d n : ℕ) (t : Task) (w : World) → R w (world_of (serve d n t w))
-serve-carried R r zero n t w = r.none w
-serve-carried R r (suc d) n t w = run-carried R r (serve d) (serve-carried R r d) (program_of w.script t) n w
+serve-carried : (programs : Programs) (R : World → World → Type 0) → IsCarried R → (d n : ℕ) (t : Task) (w : World) → R w (world_of (serve_by programs d n t w))
+serve-carried programs R r zero n t w = r.none w
+serve-carried programs R r (suc d) n t w = run-carried R r (serve_by programs d) (serve-carried programs R r d) (programs w.script t) n w
 
-pub model-carried : (R : World → World → Type 0) → IsCarried R → (n : ℕ) (t : Task) (w : World) → R w (world_of (model n t w))
-unfolding model
-model-carried R r n t w = serve-carried R r (suc (depth_for t w)) n t w
+model-carried : (programs : Programs) (R : World → World → Type 0) → IsCarried R → (n : ℕ) (t : Task) (w : World) → R w (world_of (model_by programs n t w))
+model-carried programs R r n t w = serve-carried programs R r (suc (depth_for t w)) n t w
 
 -- ---- lists grow
 
@@ -64,8 +72,8 @@ lists-carried = record {
   print = grows-printed;
 }
 
-pub model-grows : KeepsLists model
-model-grows = model-carried (λ w v. Grows w.lists v.lists) lists-carried
+pub model-grows : (programs : Programs) → KeepsLists (model_by programs)
+model-grows programs = model-carried programs (λ w v. Grows w.lists v.lists) lists-carried
 
 -- ---- the script stays
 
@@ -78,8 +86,11 @@ script-carried = record {
   print = printed-script;
 }
 
-pub model-script : KeepsScript model
-model-script = model-carried (λ w v. v.script ≡ w.script) script-carried
+pub model-script : (programs : Programs) → KeepsScript (model_by programs)
+model-script programs = model-carried programs (λ w v. v.script ≡ w.script) script-carried
+
+pub serve-script : (programs : Programs) (d : ℕ) → KeepsScript (serve_by programs d)
+serve-script programs = serve-carried programs (λ w v. v.script ≡ w.script) script-carried
 
 -- ---- what was printed stays printed
 
@@ -95,5 +106,5 @@ printed-carried = record {
   print = λ w bytes. (bytes, printed-more w bytes);
 }
 
-pub model-prints : KeepsPrinted model
-model-prints = model-carried HasPrinted printed-carried
+pub model-prints : (programs : Programs) → KeepsPrinted (model_by programs)
+model-prints programs = model-carried programs HasPrinted printed-carried

@@ -1,19 +1,15 @@
--- In a sound world a chain of prototypes is no longer than there are objects, so the rounds of [[SetPrototypeOf]] suffice.
-use Rattle.std.proofs.Common.{◌≡◌, ◌≢◌, ℕ, zero, suc, ◌<◌, ◌||◌, Bool, true, false, cond, Option, Some, None, List, [], ◌∷◌, length, refl, sym, ap, ◌∙◌, arith, eqb, nat_le, if◌then◌else◌, true≢false}
+-- In a sound world a chain of prototypes is no longer than there are objects.
+use Rattle.std.proofs.Common.{◌≡◌, ◌≢◌, ℕ, zero, suc, ◌<◌, ◌||◌, Bool, true, false, cond, Option, Some, None, List, [], ◌∷◌, length, refl, sym, ap, arith, eqb, true≢false}
 use Rattle.std.specs.List.{AllByRecursion, IsDistinct, list_any}
 use Rattle.std.proofs.lemmas.Bool.{eqb-true, ne_eqb}
 use Rattle.std.proofs.lemmas.Map.Steps.{length-le_from_distinct_below}
 use Rattle.property_keys.specs.declared.identifiers.ObjectId.{ObjectId}
 use Rattle.es_model.specs.Objects.{is_proxy}
 use Rattle.es_model.specs.World.{Lists, World, proto, kind}
-use Rattle.es_model.specs.Changes.{charged}
-use Rattle.es_model.specs.Program.{Program, done, look, Server, Halt, run}
-use Rattle.es_model.specs.programs.Errors.{flag}
-use Rattle.es_model.specs.programs.Ordinary.{same_object, proto_is_set, set_proto_round}
 use Rattle.es_model.specs.Known.{IsObject, IfThere}
 use Rattle.es_model.specs.Sound.{link, NeverReturns, IsSound}
 use Rattle.es_model.proofs.Cycles.{none-some, some-same, up_from, IsFree}
-use Rattle.es_model.proofs.KeptReads.{proto-known}
+use Rattle.es_model.proofs.SoundReads.{proto-known}
 
 -- the places of so many objects of a chain
 abbrev chain : Lists → ℕ → Option ObjectId → List ℕ
@@ -75,29 +71,3 @@ sound-linked w s a there = linked-cond w.lists (is_proxy (kind w.lists a)) (prot
 -- as many links up as there are objects, from an object or from null: there is nothing more
 pub chains-end : (w : World) (p : Option ObjectId) → IsSound w → IfThere (IsObject w.lists) p → up_from w.lists (length w.lists.objects) p ≡ None
 chains-end w p s there = is-none (up_from w.lists (length w.lists.objects) p) (too-long w.lists s.intact.chains (sound-linked w s) p there)
-
--- ---- so more rounds come to the same
-
-run-test : (S : Server) (d : ℕ) (w : World) (b : Bool) (p q r : Program) → (b ≡ false → run S q d w ≡ run S r d w) → run S (cond b p q) d w ≡ run S (cond b p r) d w
-run-test S d w true p q r h = refl
-run-test S d w false p q r h = h refl
-
--- a round after the test of the object itself
-abbrev onward : ℕ → ObjectId → Option ObjectId → ObjectId → Program
-onward left o v a = look (λ l. if is_proxy (kind l a) then proto_is_set o v else set_proto_round left o v (proto l a))
-
-rounds-same : (S : Server) (d : ℕ) (w : World) (o : ObjectId) (v : Option ObjectId) (n : ℕ) (p : Option ObjectId) (j k : ℕ) → up_from w.lists n p ≡ None → n < j → n < k → run S (set_proto_round j o v p) d w ≡ run S (set_proto_round k o v p) d w
-unfolding charged
-rounds-same S d w o v n p zero k e less more = absurd (omega arith)
-rounds-same S d w o v n p (suc j) zero e less more = absurd (omega arith)
-rounds-same S d w o v n None (suc j) (suc k) e less more = refl
-rounds-same S d w o v zero (Some a) (suc j) (suc k) e less more = absurd (none-some a (sym e))
-rounds-same S d w o v (suc n) (Some a) (suc j) (suc k) e less more =
-    ap (λ r. cond (nat_le 1 w.turns) r (Halt w 0)) (run-test S d (charged w 1) (same_object a o) (done (flag false)) (onward j o v a) (onward k o v a) (λ other.
-    run-test S d (charged w 1) (is_proxy (kind w.lists a)) (proto_is_set o v) (set_proto_round j o v (proto w.lists a)) (set_proto_round k o v (proto w.lists a)) (λ plain.
-    rounds-same S d (charged w 1) o v n (proto w.lists a) j k (sym (ap (λ b. up_from w.lists n (cond b None (proto w.lists a))) plain) ∙ e) (omega arith) (omega arith))))
-
--- the rounds that the program takes suffice: with more of them it comes to the same
-pub rounds-suffice : (S : Server) (d : ℕ) (w : World) (o : ObjectId) (v : Option ObjectId) (more : ℕ) → IsSound w → IfThere (IsObject w.lists) v → length w.lists.objects < more →
-    run S (set_proto_round more o v v) d w ≡ run S (set_proto_round (suc (length w.lists.objects)) o v v) d w
-rounds-suffice S d w o v more s there enough = rounds-same S d w o v (length w.lists.objects) v more (suc (length w.lists.objects)) (chains-end w v s there) enough (omega arith)

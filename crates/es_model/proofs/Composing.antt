@@ -1,6 +1,6 @@
 -- How outcomes compose.
 use Rattle.std.proofs.Common.{◌≡◌, ℕ, zero, suc, refl, ◌∙◌, ap}
-use Rattle.es_model.specs.declared.answers.Completion.{Completion}
+use Rattle.es_model.specs.Completions.{Completion}
 use Rattle.es_model.specs.World.{World}
 use Rattle.es_model.specs.Program.{Outcome, Ended, Halt, one_more, plus, after}
 
@@ -16,7 +16,7 @@ pub after-after : (o : Outcome) (f g : Completion → World → Outcome) → aft
 after-after (Ended c w n) f g = after-plus n (f c w) g
 after-after (Halt w n) f g = refl
 
-plus-ended : (n : ℕ) (c : Completion) (w : World) → plus n (Ended c w 0) ≡ Ended c w n
+pub plus-ended : (n : ℕ) (c : Completion) (w : World) → plus n (Ended c w 0) ≡ Ended c w n
 plus-ended zero c w = refl
 plus-ended (suc n) c w = ap one_more (plus-ended n c w)
 

@@ -1,13 +1,12 @@
 -- What kept programs come to.
 use Rattle.std.proofs.Common.{ℕ, zero, suc, Bool, true, false, cond, List, refl, ◌∙◌, nat_le, nat_lt}
-use Rattle.es_model.specs.declared.answers.Completion.{Completion}
+use Rattle.es_model.specs.Completions.{Completion}
 use Rattle.es_model.specs.World.{Lists, World}
 use Rattle.es_model.specs.Changes.{Change, changed, charged, printed_more}
 use Rattle.es_model.specs.Program.{Program, done, look, change, charge, ask, part, nest, print, Of, Outcome, Ended, Halt, Server, run, one_more, plus, after, nested_limit}
-use Rattle.es_model.specs.Serve.{program_of, serve}
-use Rattle.es_model.specs.Depth.{depth_for, model}
+use Rattle.es_model.specs.Servers.{Programs, serve_by, depth_for, model_by}
 use Rattle.es_model.specs.Sound.{IsSound}
-use Rattle.es_model.specs.Kept.{IsLater, FitsTask, IsKept, IsKeptOutcome, KeepsSound, KeepsEach}
+use Rattle.es_model.specs.Kept.{IsLater, FitsTask, IsKept, IsKeptOutcome, KeepsSound, KeepsEachBy}
 use Rattle.es_model.proofs.Rests.{leaves-changed, charged-script, printed-script}
 use Rattle.es_model.proofs.Growing.{grows_none, grows_then, grows-changed, grows-charged, grows-printed}
 
@@ -60,17 +59,17 @@ run-kept P S keeps (ask q k) n w h =
     kept-one_more P w (after (S n (Of q) w) (λ c v. run S (k c) n v))
     (kept-after (FitsTask (Of q)) P w (S n (Of q) w) (λ c v. run S (k c) n v) (keeps n (Of q) w h.0 h.1) (λ c v sound later fit. run-kept P S keeps (k c) n v (h.2 c v sound later fit)))
 run-kept P S keeps (part t k) n w h =
-    kept-after (FitsTask t) P w (S n t w) (λ c v. run S (k c) n v) (keeps n t w h.0 h.1) (λ c v sound later fit. run-kept P S keeps (k c) n v (h.2 c v sound later fit))
+    kept-one_more P w (after (S n t w) (λ c v. run S (k c) n v))
+    (kept-after (FitsTask t) P w (S n t w) (λ c v. run S (k c) n v) (keeps n t w h.0 h.1) (λ c v sound later fit. run-kept P S keeps (k c) n v (h.2 c v sound later fit)))
 run-kept P S keeps (nest p q) n w h =
     kept-cond P w (nat_lt n nested_limit) (run S p (suc n) w) (run S q n w) (run-kept P S keeps p (suc n) w h.0) (run-kept P S keeps q n w h.1)
 run-kept P S keeps (print bytes p) n w h =
     kept-before P w (printed_more w bytes) (run S p n (printed_more w bytes)) (later-printed w bytes) (run-kept P S keeps p n (printed_more w bytes) h)
 
-serve-kept : KeepsEach → (d : ℕ) → KeepsSound (serve d)
-serve-kept each zero n t w sound known = (sound.intact, later_none w)
-serve-kept each (suc d) n t w sound known = run-kept (FitsTask t) (serve d) (serve-kept each d) (program_of w.script t) n w (each t w sound known)
+serve-kept : (programs : Programs) → KeepsEachBy programs → (d : ℕ) → KeepsSound (serve_by programs d)
+serve-kept programs each zero n t w sound known = (sound.intact, later_none w)
+serve-kept programs each (suc d) n t w sound known = run-kept (FitsTask t) (serve_by programs d) (serve-kept programs each d) (programs w.script t) n w (each t w sound known)
 
 -- the model keeps worlds sound, where each algorithm does
-pub model-kept : KeepsEach → KeepsSound model
-unfolding model
-model-kept each n t w sound known = serve-kept each (suc (depth_for t w)) n t w sound known
+pub model-kept : (programs : Programs) → KeepsEachBy programs → KeepsSound (model_by programs)
+model-kept programs each n t w sound known = serve-kept programs each (suc (depth_for t w)) n t w sound known

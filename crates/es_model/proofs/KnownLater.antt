@@ -20,7 +20,7 @@ use Rattle.es_model.specs.declared.owned.OwnProperty.{OwnProperty}
 use Rattle.es_model.specs.declared.intrinsics.Intrinsic.{Intrinsic}
 use Rattle.es_model.specs.StartObjects.{object_of}
 use Rattle.es_model.specs.StartTable.{start_kind}
-use Rattle.es_model.specs.Tree.{Tree}
+use Rattle.es_tree.specs.Tree.{Tree}
 use Rattle.es_model.specs.Builtins.{BuiltinFacts, builtin_facts}
 use Rattle.es_model.specs.Objects.{Object, is_proxy}
 use Rattle.es_model.specs.World.{Lists, kind}

@@ -17,8 +17,8 @@ use Rattle.descriptors.specs.declared.validation.Verdict.TheVariants as verdict
 use Rattle.descriptors.specs.Validation.{is_configurable}
 use Rattle.es_model.specs.declared.kinds.CellNo.{CellNo}
 use Rattle.es_model.specs.declared.kinds.ObjectKind.{ObjectKind}
-use Rattle.es_model.specs.declared.numbers.FunctionNo.{FunctionNo}
-use Rattle.es_model.specs.declared.numbers.SiteId.{SiteId}
+use Rattle.es_tree.specs.declared.numbers.FunctionNo.{FunctionNo}
+use Rattle.es_tree.specs.declared.numbers.SiteId.{SiteId}
 use Rattle.es_model.specs.Objects.{Object, object_at, with_properties, add_property, replace_property, remove_property, same_key, new_object_of, is_proxy}
 use Rattle.es_model.specs.Events.{Event, Origin, Way, Made, MadePrototype}
 use Rattle.es_model.specs.World.{World, own, kind, extensible, definition, new_object}
@@ -27,7 +27,7 @@ use Rattle.es_model.specs.Known.{IsObject, IsText, IfThere, IsKnown, IsKnownKey,
 use Rattle.es_model.specs.Sound.{IsKnownKind, IsRightKind, IsShort, IsSound}
 use Rattle.es_model.proofs.Growing.{grows-put, grows-changed}
 use Rattle.es_model.proofs.KnownLater.{all-map, there-map, known-later, text-later}
-use Rattle.es_model.proofs.KeptReads.{own-known}
+use Rattle.es_model.proofs.SoundReads.{own-known}
 use Rattle.es_model.proofs.SoundPut.{chains-put, sound-put, sound-others}
 use Rattle.es_model.proofs.SoundProperties.{all-cond, all-append, all-set, all-filter, known-replaced, distinct-replaced, distinct-filter, distinct-added, IsKnownVerdict, verdict-known}
 use Rattle.es_model.proofs.SoundNew.{sound-new, one-each}

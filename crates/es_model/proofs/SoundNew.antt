@@ -9,7 +9,7 @@ use Rattle.std.proofs.lemmas.Slice.Eq.{bytes_eq-Decides}
 use Rattle.property_keys.specs.declared.identifiers.ObjectId.{ObjectId}
 use Rattle.property_keys.specs.Texts.{HasOneEach, interned, text_at}
 use Rattle.es_model.specs.declared.kinds.ObjectKind.{ObjectKind}
-use Rattle.es_model.specs.Tree.{Tree}
+use Rattle.es_tree.specs.Tree.{Tree}
 use Rattle.es_model.specs.Objects.{Object, object_at, no_object, is_proxy, new_object_of}
 use Rattle.es_model.specs.World.{Lists, World, proto, kind, new_object}
 use Rattle.es_model.specs.Changes.{with_objects}

@@ -25,7 +25,7 @@ use Rattle.es_model.specs.declared.intrinsics.Class.{Class}
 use Rattle.es_model.specs.declared.intrinsics.Class.TheVariants as class
 use Rattle.es_model.specs.declared.intrinsics.Intrinsic.{Intrinsic}
 use Rattle.es_model.specs.declared.intrinsics.Intrinsic.TheVariants as intrinsic
-use Rattle.es_model.specs.Tree.{Tree, empty_tree}
+use Rattle.es_tree.specs.Tree.{Tree, empty_tree}
 use Rattle.es_model.specs.Objects.{Object, object_at, no_object, same_key}
 use Rattle.es_model.specs.World.{Lists, kind, text_place}
 use Rattle.es_model.specs.Builtins.{BuiltinFacts, builtin_facts}

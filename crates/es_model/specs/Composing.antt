@@ -1,6 +1,6 @@
 -- How outcomes compose.
 use Rattle.std.specs.Prelude.{◌≡◌}
-use Rattle.es_model.specs.declared.answers.Completion.{Completion}
+use Rattle.es_model.specs.Completions.{Completion}
 use Rattle.es_model.specs.World.{World}
 use Rattle.es_model.specs.Program.{Outcome, Ended, after}
 

@@ -9,9 +9,9 @@ use Rattle.property_keys.specs.declared.values.Value.{Value}
 use Rattle.property_keys.specs.declared.values.Value.TheVariants as value
 use Rattle.descriptors.specs.declared.property.Complete.{Complete}
 use Rattle.descriptors.specs.declared.property.Complete.TheVariants as complete
-use Rattle.es_model.specs.declared.numbers.FunctionNo.{FunctionNo}
-use Rattle.es_model.specs.declared.numbers.LiteralNo.{LiteralNo}
-use Rattle.es_model.specs.declared.numbers.SiteId.{SiteId}
+use Rattle.es_tree.specs.declared.numbers.FunctionNo.{FunctionNo}
+use Rattle.es_tree.specs.declared.numbers.LiteralNo.{LiteralNo}
+use Rattle.es_tree.specs.declared.numbers.SiteId.{SiteId}
 
 -- where an object comes from
 pub data Origin : Type 0 where

@@ -1,6 +1,7 @@
 -- Which requests name what is there, and which answers fit a request.
-use Rattle.std.specs.Prelude.{◌≡◌, ⊤, ℕ, length}
+use Rattle.std.specs.Prelude.{◌≡◌, ⊤, Option, Some, None, List, [], ◌∷◌, length}
 use Rattle.std.specs.List.{AllByRecursion}
+use Rattle.property_keys.specs.declared.identifiers.ObjectId.{ObjectId}
 use Rattle.property_keys.specs.declared.values.Value.{Value}
 use Rattle.property_keys.specs.declared.values.Value.TheVariants as value
 use Rattle.es_model.specs.declared.requests.Operation.{Operation}
@@ -9,8 +10,7 @@ use Rattle.es_model.specs.declared.requests.Request.{Request}
 use Rattle.es_model.specs.declared.requests.Request.TheVariants.{GetOwn, Define, Has, Read, Write, Delete, Keys, Proto, SetProto, Extensible, Prevent, Call, Construct, Work, Print}
 use Rattle.es_model.specs.declared.answers.Reply.{Reply}
 use Rattle.es_model.specs.declared.answers.Reply.TheVariants as reply
-use Rattle.es_model.specs.declared.answers.Completion.{Completion}
-use Rattle.es_model.specs.declared.answers.Completion.TheVariants.{Normal, Throw}
+use Rattle.es_model.specs.Completions.{Completion, Normal, Break, Continue, Return, Throw}
 use Rattle.es_model.specs.World.{Lists}
 use Rattle.es_model.specs.Known.{IsObject, IfThere, IsKnown, IsKnownKey, IsKnownComplete, IsKnownDescriptor, AreKnown}
 
@@ -110,19 +110,37 @@ IsKnownReply l (reply.Proto p) = IfThere (IsObject l) p
 IsKnownReply l (reply.List vs) = AreKnown l vs
 IsKnownReply l (reply.Wanted d) = IsKnownDescriptor l d
 
+-- what a completion names is there
+abbrev pub IsKnownCompletion : Lists → Completion → Type 0
+IsKnownCompletion l (Normal r) = IsKnownReply l r
+IsKnownCompletion l Break = ⊤
+IsKnownCompletion l Continue = ⊤
+IsKnownCompletion l (Return v) = IsKnown l v
+IsKnownCompletion l (Throw v) = IsKnown l v
+
 -- an answer fits a request: it is a throw, or a reply of the request's kind, and all that it names is there
 abbrev pub Fits : Lists → Request → Completion → Type 0
-Fits l q (Throw v) = IsKnown l v
 Fits l q (Normal r) = FitsRequest q r × IsKnownReply l r
+Fits l q (Throw v) = IsKnown l v
+Fits l q other = ⊥
 
 -- ---- what a request names is there
 
--- how many operands there are, of which LeftFirst is a Bool and a line's are texts
-abbrev pub operands_of : Operation → ℕ
-operands_of operation.InstanceOf = 2
-operands_of operation.LooselyEqual = 2
-operands_of operation.LessThan = 3
-operands_of other = 1
+abbrev pub IsFlagValue : Value → Type 0
+IsFlagValue (value.Bool b) = ⊤
+IsFlagValue other = ⊥
+
+-- two operands, and whether the left one is converted first (7.2.13)
+abbrev pub HasThreeOperands : List Value → Type 0
+HasThreeOperands (a ∷ b ∷ left_first ∷ []) = IsFlagValue left_first
+HasThreeOperands other = ⊥
+
+-- each operation has its number of operands
+abbrev pub HasOperands : Operation → List Value → Type 0
+HasOperands operation.InstanceOf operands = length operands ≡ 2
+HasOperands operation.LooselyEqual operands = length operands ≡ 2
+HasOperands operation.LessThan operands = HasThreeOperands operands
+HasOperands other operands = length operands ≡ 1
 
 abbrev pub IsKnownRequest : Lists → Request → Type 0
 IsKnownRequest l (GetOwn o k) = IsObject l o × IsKnownKey l k
@@ -138,5 +156,20 @@ IsKnownRequest l (Extensible o) = IsObject l o
 IsKnownRequest l (Prevent o) = IsObject l o
 IsKnownRequest l (Call f this arguments) = IsKnown l f × IsKnown l this × AreKnown l arguments
 IsKnownRequest l (Construct f arguments target) = IsObject l f × AreKnown l arguments × IsObject l target
-IsKnownRequest l (Work op operands) = (length operands ≡ operands_of op) × AreKnown l operands
+IsKnownRequest l (Work op operands) = HasOperands op operands × AreKnown l operands
 IsKnownRequest l (Print line) = AllByRecursion IsTextValue line × AreKnown l line
+
+-- the object whose internal method a request asks for, but for calls and constructions
+abbrev pub object_in : Request → Option ObjectId
+object_in (GetOwn o k) = Some o
+object_in (Define o k wanted) = Some o
+object_in (Has o k) = Some o
+object_in (Read o k receiver site) = Some o
+object_in (Write o k v receiver site) = Some o
+object_in (Delete o k) = Some o
+object_in (Keys o) = Some o
+object_in (Proto o) = Some o
+object_in (SetProto o p) = Some o
+object_in (Extensible o) = Some o
+object_in (Prevent o) = Some o
+object_in other = None

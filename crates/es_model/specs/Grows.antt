@@ -5,7 +5,7 @@ use Rattle.es_model.specs.declared.kinds.ObjectKind.{ObjectKind}
 use Rattle.es_model.specs.declared.kinds.ObjectKind.TheVariants as kind_of
 use Rattle.es_model.specs.World.{Lists, World, kind}
 use Rattle.es_model.specs.Program.{Task, Server}
-use Rattle.es_model.specs.Depth.{world_of}
+use Rattle.es_model.specs.Outcomes.{world_of}
 
 -- a kind without the inner slots that may change: the cells of arguments objects, the target and the handler of a Proxy
 abbrev pub fixed_kind : ObjectKind → ObjectKind

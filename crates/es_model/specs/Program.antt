@@ -6,17 +6,27 @@ use Rattle.property_keys.specs.declared.identifiers.TextId.{TextId}
 use Rattle.property_keys.specs.declared.keys.PropKey.{PropKey}
 use Rattle.property_keys.specs.declared.values.Value.{Value}
 use Rattle.descriptors.specs.declared.fields.Descriptor.{Descriptor}
+use Rattle.es_tree.specs.declared.numbers.NodeId.{NodeId}
+use Rattle.es_model.specs.declared.running.Part.{Part}
+use Rattle.es_model.specs.declared.running.Running.{Running}
 use Rattle.es_model.specs.declared.kinds.CellNo.{CellNo}
 use Rattle.es_model.specs.declared.kinds.ObjectKind.{ObjectKind}
 use Rattle.es_model.specs.declared.requests.Request.{Request}
-use Rattle.es_model.specs.declared.answers.Completion.{Completion}
+use Rattle.es_model.specs.Completions.{Completion}
 use Rattle.es_model.specs.Events.{Origin}
 use Rattle.es_model.specs.World.{Lists, World, allows, deletes, new_object, new_cell, new_symbol, number_of}
 use Rattle.es_model.specs.Changes.{Change, Defining, Deleting, Making, Interning, MakingCell, MakingSymbol, changed, charged, printed_more}
 
--- what is served: a request, which is counted. (The parts of an algorithm that recur inside a crate, and are not counted, are tasks of their own.)
+-- what is served
 pub data Task : Type 0 where
+  -- a request of an algorithm
   Of : Request → Task
+  -- a node of a running body, with the cells of the names that are in force, and the name that an anonymous function gets there
+  Evaluating : Running → List CellNo → Option TextId → NodeId → Task
+  -- the statements of a part of the tree from a number on
+  Statements : Running → List CellNo → Part → ℕ → Task
+  -- a round of the loop that is this node
+  Round : Running → List CellNo → NodeId → Task
 
 -- an algorithm, up to the answers that it gets
 pub data Program : Type 0 where
@@ -58,7 +68,7 @@ make_symbol d next = look (λ l. change (MakingSymbol d) (next (new_symbol l)))
 
 -- ---- what a program comes to
 
--- a completion with the world after, or a halt with the world at the halt. The number is that of the requests
+-- a completion with the world after, or a halt with the world at the halt. The number is that of the requests and parts
 pub data Outcome : Type 0 where
   Ended : Completion → World → ℕ → Outcome
   Halt : World → ℕ → Outcome
@@ -91,6 +101,6 @@ run S (look f) n w = run S (f w.lists) n w
 run S (change op p) n w = run S p n (changed op w)
 run S (charge t p) n w = if nat_le t w.turns then run S p n (charged w t) else Halt w 0
 run S (ask q k) n w = one_more (after (S n (Of q) w) (λ c w'. run S (k c) n w'))
-run S (part t k) n w = after (S n t w) (λ c w'. run S (k c) n w')
+run S (part t k) n w = one_more (after (S n t w) (λ c w'. run S (k c) n w'))
 run S (nest p q) n w = if nat_lt n nested_limit then run S p (suc n) w else run S q n w
 run S (print bytes p) n w = run S p n (printed_more w bytes)

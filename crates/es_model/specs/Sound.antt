@@ -3,7 +3,7 @@ use Rattle.std.specs.Prelude.{◌^◌, ◌≡◌, ◌≢◌, ◌<◌, ◌≤◌,
 use Rattle.std.specs.List.{AllByRecursion}
 use Rattle.property_keys.specs.declared.identifiers.ObjectId.{ObjectId}
 use Rattle.property_keys.specs.Texts.{HasOneEach}
-use Rattle.es_model.specs.declared.facts.FunctionFacts.{FunctionFacts}
+use Rattle.es_tree.specs.declared.facts.FunctionFacts.{FunctionFacts}
 use Rattle.es_model.specs.declared.kinds.ObjectKind.{ObjectKind}
 use Rattle.es_model.specs.declared.kinds.ObjectKind.TheVariants as kind_of
 use Rattle.es_model.specs.declared.owned.OwnProperty.{OwnProperty}
@@ -11,7 +11,7 @@ use Rattle.es_model.specs.declared.intrinsics.Intrinsic.{Intrinsic}
 use Rattle.es_model.specs.StartObjects.{object_of}
 use Rattle.es_model.specs.StartTable.{start_kind}
 use Rattle.es_model.specs.Builtins.{BuiltinFacts, builtin_facts}
-use Rattle.es_model.specs.Tree.{Tree, top_names}
+use Rattle.es_tree.specs.Tree.{Tree, top_names}
 use Rattle.es_model.specs.Objects.{Object, object_at, is_proxy, same_key}
 use Rattle.es_model.specs.World.{Lists, World, proto, kind}
 use Rattle.es_model.specs.Grows.{fixed_kind}

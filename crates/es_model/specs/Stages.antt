@@ -1,7 +1,7 @@
 -- What a program does up to its next question, with no server.
 use Rattle.std.specs.Prelude.{◌≡◌, List, ℕ, nat_le, if◌then◌else◌}
 use Rattle.es_model.specs.declared.requests.Request.{Request}
-use Rattle.es_model.specs.declared.answers.Completion.{Completion}
+use Rattle.es_model.specs.Completions.{Completion}
 use Rattle.es_model.specs.World.{World}
 use Rattle.es_model.specs.Changes.{changed, charged}
 use Rattle.es_model.specs.Program.{Program, Task, Of, done, look, change, charge, ask, part, nest, print, Outcome, Ended, Halt, Server, one_more, after, run}

@@ -4,7 +4,7 @@ use Rattle.es_model.specs.declared.intrinsics.Intrinsic.{Intrinsic}
 use Rattle.es_model.specs.declared.start_texts.StartText.{StartText}
 use Rattle.es_model.specs.declared.start_texts.StartText.TheVariants as text
 use Rattle.es_model.specs.declared.start_texts.WellKnown.{WellKnown}
-use Rattle.es_model.specs.Tree.{Tree}
+use Rattle.es_tree.specs.Tree.{Tree}
 use Rattle.es_model.specs.World.{text_place}
 use Rattle.es_model.specs.StartObjects.{start_number, start_objects}
 use Rattle.es_model.specs.StartTexts.{symbol_number, text_number, text_of, units_of_start, start_texts, start_symbols}

@@ -4,7 +4,7 @@ use Rattle.es_model.specs.declared.kinds.ErrorKind.TheVariants as error
 use Rattle.es_model.specs.declared.intrinsics.Class.TheVariants as class
 use Rattle.es_model.specs.declared.intrinsics.Intrinsic.{Intrinsic}
 use Rattle.es_model.specs.declared.intrinsics.Intrinsic.TheVariants.{Global, Constructor, Prototype, Proxy, ThrowTypeError, Reflect}
-use Rattle.es_model.specs.Tree.{Tree}
+use Rattle.es_tree.specs.Tree.{Tree}
 use Rattle.es_model.specs.Objects.{Object}
 use Rattle.es_model.specs.World.{Lists, World}
 use Rattle.es_model.specs.StartObjects.{object_of}

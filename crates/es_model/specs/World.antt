@@ -13,7 +13,7 @@ use Rattle.descriptors.specs.declared.validation.Verdict.{Verdict}
 use Rattle.descriptors.specs.Validation.{verdict_of, is_allowed, is_configurable}
 use Rattle.es_model.specs.declared.kinds.CellNo.{CellNo}
 use Rattle.es_model.specs.declared.kinds.ObjectKind.{ObjectKind}
-use Rattle.es_model.specs.Tree.{Tree}
+use Rattle.es_tree.specs.Tree.{Tree}
 use Rattle.es_model.specs.Objects.{Object, object_at, find_property, is_proxy}
 use Rattle.es_model.specs.Events.{Event, Walk, AtProperty, AtNull, AtProxy}
 
@@ -31,6 +31,10 @@ pub record World : Type 0 where
   pub turns : ℕ
   pub trace : List Event
   pub printed : List ℕ
+
+-- the same world with so many turns left
+abbrev pub with_turns : World → ℕ → World
+with_turns w left = record w { turns = left }
 
 -- ---- what is read
 

@@ -1,3 +1,3 @@
--- The algorithms, by the crate that has their frames.
+-- Programs that many algorithms share.
+pub mod Abrupt
 pub mod Errors
-pub mod Ordinary

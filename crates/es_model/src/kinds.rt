@@ -1,4 +1,5 @@
-use crate::{ArgumentCells, FunctionNo};
+use crate::ArgumentCells;
+use es_tree::FunctionNo;
 use property_keys::{ObjectId, TextId, Value};
 
 /// The number of a cell: its place in the list of cells. A cell is a binding (ECMA-262, 9.1.1.1), and empty before its initialisation.

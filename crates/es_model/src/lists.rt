@@ -1,4 +1,5 @@
-use crate::{CellNo, Items};
+use crate::CellNo;
+use es_tree::Items;
 use property_keys::{PropKey, Value};
 
 /// A list of values.

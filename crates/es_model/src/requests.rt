@@ -1,5 +1,6 @@
-use crate::{SiteId, Values};
+use crate::Values;
 use descriptors::Descriptor;
+use es_tree::SiteId;
 use property_keys::{ObjectId, PropKey, Value};
 
 /// What an algorithm may ask of the dispatcher: an internal method of an object (ECMA-262, 6.1.7.2), an abstract operation, or a line of print.

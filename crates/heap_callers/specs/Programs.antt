@@ -4,8 +4,7 @@ use Rattle.property_keys.specs.declared.identifiers.ObjectId.{ObjectId}
 use Rattle.property_keys.specs.declared.keys.PropKey.{PropKey}
 use Rattle.property_keys.specs.declared.values.Value.TheVariants as value
 use Rattle.descriptors.specs.declared.fields.Descriptor.{Descriptor}
-use Rattle.es_model.specs.declared.answers.Completion.{Completion}
-use Rattle.es_model.specs.declared.answers.Completion.TheVariants.{Normal}
+use Rattle.es_model.specs.Completions.{Completion, Normal}
 use Rattle.es_model.specs.declared.answers.Reply.TheVariants as reply
 use Rattle.es_model.specs.declared.kinds.ObjectKind.TheVariants as kind_of
 use Rattle.es_model.specs.Events.{OfPlain}

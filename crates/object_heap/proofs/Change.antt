@@ -1,6 +1,6 @@
 -- What a change of a heap makes of the worlds that it stands for. Nothing here knows how objects are kept.
 use Rattle.std.proofs.Common.{◌≡◌, ℕ, ◌-◌, true, false, Option, Some, None, Result, Ok, Err, OnErr, List, [], ◌∷◌, ◌++◌, map, refl, ap, sym, ◌∙◌, subst, cond, append_assoc}
-use Rattle.std.specs.Prelude.{IsSome, slice_set}
+use Rattle.std.specs.Prelude.{is_some, slice_set}
 use Rattle.std.proofs.Math.ListN.{set}
 use Rattle.std.proofs.lemmas.List.{map-set, map-append, append-nil}
 use Rattle.property_keys.specs.declared.identifiers.ObjectId.{ObjectId}
@@ -12,16 +12,17 @@ use Rattle.descriptors.specs.declared.property.Complete.{Complete}
 use Rattle.es_model.specs.declared.kinds.CellNo.{CellNo}
 use Rattle.es_model.specs.declared.kinds.ObjectKind.{ObjectKind}
 use Rattle.es_model.specs.Objects.{Object, object_at, with_properties, add_property, replace_property, remove_property, new_object_of, is_proxy, revoked_kind, unmapped_kind}
-use Rattle.es_model.specs.Events.{Event, Origin, Closed, Made, MadePrototype, ProtoSet, put_event, removal_event}
+use Rattle.es_tree.specs.declared.numbers.SiteId.{SiteId}
+use Rattle.es_model.specs.Events.{Event, Origin, Way, Closed, Made, MadePrototype, ProtoSet, put_event, removal_event}
 use Rattle.es_model.specs.World.{World, new_object, kind}
-use Rattle.es_model.specs.Changes.{Interning, MakingCell, MakingSymbol, SettingCell, Revoking, Unmapping, added, replaced, removed, with_proto, closed, with_kind, made, prototype_noted, noted, with_object, with_objects, text_known, symbol_made, cell_made, cell_set, construction_noted, charged, changed}
+use Rattle.es_model.specs.Changes.{Accessing, Interning, Making, MakingCell, MakingSymbol, SettingCell, Revoking, Unmapping, added, replaced, removed, with_proto, closed, with_kind, made, prototype_noted, noted, with_object, with_objects, text_known, symbol_made, cell_made, cell_set, construction_noted, access_noted, charged, changed}
 use Rattle.object_heap.specs.Seen.{Seen, seen, seen_at, put_seen, find_seen, seen_added, seen_replaced, seen_removed}
 use Rattle.slack_tracking.specs.declared.OriginKind.{OriginKind}
 use Rattle.slack_tracking.specs.declared.OriginKind.TheVariants as origin
 use Rattle.object_heap.specs.Origins.{constructed_by}
-use Rattle.object_heap.specs.Stands.{HeapView, Beside, beside, beside_world, StandsFor, HasObjects, HasRest, Goes, Trails, Keeps}
+use Rattle.object_heap.specs.Stands.{HeapView, Beside, beside, beside_world, StandsFor, HasLists, Goes, Trails, Keeps}
 use Rattle.object_heap.proofs.SeenFacts.{seen-added, seen-replaced, seen-removed}
-use Rattle.object_heap.proofs.Standing.{seen-stands, own-stands}
+use Rattle.object_heap.proofs.Standing.{objects-stand, rest-stands, stand, seen-stands, own-stands}
 
 -- Nothing is kept of a heap yet, so a heap follows every other.
 trails : (old new : HeapView) (before : List Event) (es : List Event) → Trails old new before (before ++ es)
@@ -32,9 +33,12 @@ trails-nothing : (old new : HeapView) (before : List Event) → Trails old new b
 unfolding Trails
 trails-nothing old new before = ([], sym (append-nil before), record {})
 
--- the heap is as before
+-- what callers see is as before
 pub keeps : {old new : HeapView} → new ≡ old → Keeps old new
-keeps {old = old} {new = new} e = λ w h. subst (λ x. StandsFor x w) (sym e) h
+keeps {old = old} {new = new} e = λ w h. subst (λ x. HasLists x w) (sym e) h
+
+stands-same : (old new : HeapView) (w : World) → new ≡ old → StandsFor old w → StandsFor new w
+stands-same old new w e h = subst (λ x. StandsFor x w) (sym e) h
 
 -- a fact holds at the exit of a `?` too
 pub on_err-always : {T E Q : Type 0} (r : Result T E) → Q → OnErr r Q
@@ -43,27 +47,27 @@ on_err-always (Err e) q = q
 
 -- ---- one object changes
 
+-- the world is left but for its trace
+stands-noted : (heap : HeapView) (w : World) (event : Event) → StandsFor heap w → StandsFor heap (noted w event)
+stands-noted heap w event h = stand heap (noted w event) (objects-stand heap w h) (rest-stands heap w h)
+
 stands-put : (old new : HeapView) (object : ObjectId) (fs : Seen → Seen) (f : Object → Object) (w : World) →
     new ≡ record old { objects = put_seen old.objects object (fs (seen_at old.objects object)) } → StandsFor old w →
     seen (f (object_at w.lists.objects object)) ≡ fs (seen (object_at w.lists.objects object)) →
     StandsFor new (with_object w object (f (object_at w.lists.objects object)))
-unfolding HasObjects HasRest
 stands-put old new object fs f w e h is =
     let x = object_at w.lists.objects object in
-    record {
-      objects = ap (λ (v : HeapView). v.objects) e ∙ ap (λ s. set old.objects object.0 s) (ap fs (seen-stands old w object h) ∙ sym is)
-          ∙ ap (λ ss. set ss object.0 (seen (f x))) h.objects ∙ sym (map-set seen w.lists.objects object.0 (f x));
-      rest = ap beside e ∙ h.rest;
-    }
+    stand new (with_object w object (f x))
+    (ap (λ (v : HeapView). v.objects) e ∙ ap (λ s. set old.objects object.0 s) (ap fs (seen-stands old w object h) ∙ sym is)
+    ∙ ap (λ ss. set ss object.0 (seen (f x))) (objects-stand old w h) ∙ sym (map-set seen w.lists.objects object.0 (f x)))
+    (ap beside e ∙ rest-stands old w h)
 
 goes-put : (old new : HeapView) (object : ObjectId) (fs : Seen → Seen) (f : Object → Object) (event : Event) (w : World) →
     new ≡ record old { objects = put_seen old.objects object (fs (seen_at old.objects object)) } → StandsFor old w →
     seen (f (object_at w.lists.objects object)) ≡ fs (seen (object_at w.lists.objects object)) →
     Goes old new w (noted (with_object w object (f (object_at w.lists.objects object))) event)
-unfolding HasObjects HasRest
 goes-put old new object fs f event w e h is =
-    let s = stands-put old new object fs f w e h is in
-    record { stands = record { objects = s.objects; rest = s.rest }; follows = trails old new w.trace (event ∷ []) }
+    record { stands = stands-noted new _ event (stands-put old new object fs f w e h is); follows = trails old new w.trace (event ∷ []) }
 
 pub goes-added : (old new : HeapView) (object : ObjectId) (key : PropKey) (c : Complete) → find_seen (seen_at old.objects object) key ≡ None →
     new ≡ record old { objects = put_seen old.objects object (seen_added (seen_at old.objects object) key c) } →
@@ -73,13 +77,13 @@ goes-added old new object key c none e w h =
     goes-put old new object (λ s. seen_added s key c) (λ o. with_properties o (add_property o.properties key c)) (put_event object key None c) w e h
     (seen-added (object_at w.lists.objects object) key c (sym (own-stands old w object key h) ∙ none))
 
-pub goes-replaced : (old new : HeapView) (object : ObjectId) (key : PropKey) (c : Complete) → IsSome (find_seen (seen_at old.objects object) key) →
+pub goes-replaced : (old new : HeapView) (object : ObjectId) (key : PropKey) (before c : Complete) → find_seen (seen_at old.objects object) key ≡ Some before →
     new ≡ record old { objects = put_seen old.objects object (seen_replaced (seen_at old.objects object) key c) } →
-    (w : World) (before : Complete) → StandsFor old w → Goes old new w (replaced w object key before c)
+    (w : World) → StandsFor old w → Goes old new w (replaced w object key before c)
 unfolding replaced
-goes-replaced old new object key c some e w before h =
+goes-replaced old new object key before c there e w h =
     goes-put old new object (λ s. seen_replaced s key c) (λ o. with_properties o (replace_property o.properties key c)) (put_event object key (Some before) c) w e h
-    (seen-replaced (object_at w.lists.objects object) key c (subst (λ (o : Option Complete). IsSome o) (own-stands old w object key h) some))
+    (seen-replaced (object_at w.lists.objects object) key c (ap is_some (sym (own-stands old w object key h) ∙ there)))
 
 pub goes-removed : (old new : HeapView) (object : ObjectId) (key : PropKey) →
     new ≡ record old { objects = put_seen old.objects object (seen_removed (seen_at old.objects object) key) } →
@@ -124,16 +128,10 @@ goes-unmapped old new object i e w h = goes-kind old new object (λ k. unmapped_
 
 stands-made : (old new : HeapView) (k : ObjectKind) (p : Option ObjectId) (w : World) → new ≡ record old { objects = old.objects ++ seen (new_object_of k p) ∷ [] } → StandsFor old w →
     StandsFor new (with_objects w (w.lists.objects ++ new_object_of k p ∷ []))
-unfolding HasObjects HasRest
-stands-made old new k p w e h = record {
-  objects = ap (λ (v : HeapView). v.objects) e ∙ ap (λ ss. ss ++ seen (new_object_of k p) ∷ []) h.objects ∙ sym (map-append seen w.lists.objects (new_object_of k p ∷ []));
-  rest = ap beside e ∙ h.rest;
-}
-
--- the world is left but for its trace
-stands-noted : (heap : HeapView) (w : World) (event : Event) → StandsFor heap w → StandsFor heap (noted w event)
-unfolding HasObjects HasRest
-stands-noted heap w event h = record { objects = h.objects; rest = h.rest }
+stands-made old new k p w e h =
+    stand new (with_objects w (w.lists.objects ++ new_object_of k p ∷ []))
+    (ap (λ (v : HeapView). v.objects) e ∙ ap (λ ss. ss ++ seen (new_object_of k p) ∷ []) (objects-stand old w h) ∙ sym (map-append seen w.lists.objects (new_object_of k p ∷ [])))
+    (ap beside e ∙ rest-stands old w h)
 
 stands-prototype : (heap : HeapView) (w : World) (p : Option ObjectId) → StandsFor heap w → StandsFor heap (prototype_noted w p)
 stands-prototype heap w None h = h
@@ -162,13 +160,18 @@ goes-made old new k p e w origin h =
       | false ↦ record { stands = stands-noted new (prototype_noted after p) event (stands-prototype new after p s); follows = trails-prototype old new after p event }
     ]
 
+pub goes-making : (old new : HeapView) (k : ObjectKind) (p : Option ObjectId) → new ≡ record old { objects = old.objects ++ seen (new_object_of k p) ∷ [] } →
+    (w : World) (origin : Origin) → StandsFor old w → Goes old new w (changed (Making k origin p) w)
+unfolding changed
+goes-making old new k p e w origin h = goes-made old new k p e w origin h
+
 -- ---- beside the objects
 
 goes-beside : (old new : HeapView) (f : Beside → Beside) (w v : World) → new.objects ≡ old.objects → beside new ≡ f (beside old) → StandsFor old w →
     v.lists.objects ≡ w.lists.objects → beside_world v ≡ f (beside_world w) → v.trace ≡ w.trace → Goes old new w v
-unfolding Trails HasObjects HasRest
+unfolding Trails
 goes-beside old new f w v os bs h os' bs' t = record {
-  stands = record { objects = os ∙ h.objects ∙ sym (ap (map seen) os'); rest = bs ∙ ap f h.rest ∙ sym bs' };
+  stands = stand new v (os ∙ objects-stand old w h ∙ sym (ap (map seen) os')) (bs ∙ ap f (rest-stands old w h) ∙ sym bs');
   follows = ([], t ∙ sym (append-nil w.trace), record {});
 }
 
@@ -201,8 +204,15 @@ goes-cell_set old new c x e w h =
 pub goes-same : (old new : HeapView) → new.objects ≡ old.objects → beside new ≡ beside old → (w : World) → StandsFor old w → Goes old new w w
 goes-same old new os bs w h = goes-beside old new (λ b. b) w w os bs h refl refl refl
 
+-- ---- events alone
+
+-- a site reads or writes
+pub goes-accessed : (heap : HeapView) (w : World) (site : SiteId) (way : Way) (object : ObjectId) (key : PropKey) → StandsFor heap w → Goes heap heap w (changed (Accessing site way object key) w)
+unfolding changed access_noted
+goes-accessed heap w site way object key h = record { stands = stands-noted heap w _ h; follows = trails heap heap w.trace _ }
+
 -- a construction has ended
 pub goes-constructed : (old new : HeapView) (kind : OriginKind) → new ≡ old → (w : World) → StandsFor old w → Goes old new w (constructed_by w kind)
 unfolding changed construction_noted
-goes-constructed old new (origin.Constructor place) e w h = record { stands = stands-noted new w _ (keeps e w h); follows = trails old new w.trace _ }
+goes-constructed old new (origin.Constructor place) e w h = record { stands = stands-noted new w _ (stands-same old new w e h); follows = trails old new w.trace _ }
 goes-constructed old new other e w h = goes-same old new (ap (λ (v : HeapView). v.objects) e) (ap beside e) w h

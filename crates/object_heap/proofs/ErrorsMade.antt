@@ -17,14 +17,14 @@ use Rattle.es_model.specs.StartTexts.{text_of}
 use Rattle.es_model.specs.Objects.{new_object_of}
 use Rattle.es_model.specs.Events.{OfError}
 use Rattle.es_model.specs.World.{World, number_of, text_place, own, extensible}
-use Rattle.es_model.specs.Changes.{Defining, Making, changed, text_known, added, applied}
+use Rattle.es_model.specs.Changes.{Defining, changed, text_known, added, applied}
 use Rattle.es_model.specs.programs.Errors.{error_proto, hidden}
 use Rattle.object_heap.specs.Seen.{Seen, seen, seen_at, put_seen, seen_added, find_seen, no_seen}
 use Rattle.object_heap.specs.Stands.{HeapView, StandsFor, Goes, goes_then}
 use Rattle.object_heap.specs.Errors.{name_known, error_number, error_put, error_made}
 use Rattle.object_heap.specs.Tables.{IsTable}
 use Rattle.object_heap.proofs.Standing.{count-stands, texts-stand, own-stands, extensible-stands, find-new}
-use Rattle.object_heap.proofs.Change.{goes-interned, goes-made, goes-added}
+use Rattle.object_heap.proofs.Change.{goes-interned, goes-making, goes-added}
 use Rattle.object_heap.proofs.TextNumbers.{message-stays}
 
 abbrev pub message_key : PropKey
@@ -54,10 +54,6 @@ name-is : (heap : HeapView) (w : World) → IsTable heap.texts → StandsFor hea
 unfolding number_of
 name-is heap w t h = ap (λ ts. record { 0 = text_place ts (codes "message") }) (sym (texts-stand heap w h)) ∙ ap (λ n. record { 0 = n }) t.message
 
-goes-put : (old mid : HeapView) (kind : ErrorKind) (w : World) → mid ≡ record old { objects = old.objects ++ new_error kind ∷ [] } → StandsFor old w → Goes old mid w (changed (Making kind_of.Error OfError (error_proto kind)) w)
-unfolding changed
-goes-put old mid kind w e h = goes-made old mid kind_of.Error (error_proto kind) e w OfError h
-
 -- the message is a new property of an object that takes properties
 defined-is : (heap : HeapView) (w : World) (e : ObjectId) (text : TextId) (kind : ErrorKind) → StandsFor heap w → seen_at heap.objects e ≡ new_error kind →
     changed (Defining e message_key (hidden (value.Text text))) w ≡ added w e message_key (message_of text)
@@ -75,7 +71,7 @@ error-goes old new kind text table is w h =
     let mid : HeapView = record old { objects = old.objects ++ s ∷ [] } in
     let e = error_number w in
     let named : Goes old old w (name_known w) = goes-interned old old (codes "message") (ap (λ ts. record old { texts = ts }) (sym (message-stays old.texts table))) w h in
-    let put : Goes old mid (name_known w) (error_put w kind) = goes-put old mid kind (name_known w) refl named.stands in
+    let put : Goes old mid (name_known w) (error_put w kind) = goes-making old mid kind_of.Error (error_proto kind) refl (name_known w) OfError named.stands in
     let n : e.0 ≡ length old.objects = sym (count-stands old (name_known w) named.stands) in
     let at : seen_at mid.objects e ≡ s = at-end old.objects s e.0 n in
     let none : find_seen (seen_at mid.objects e) message_key ≡ None = ap (λ x. find_seen x message_key) at ∙ find-new kind_of.Error (error_proto kind) message_key in

@@ -13,15 +13,15 @@ use Rattle.object_heap.proofs.SeenFacts.{find-seen}
 
 pub objects-stand : (heap : HeapView) (w : World) → StandsFor heap w → heap.objects ≡ map seen w.lists.objects
 unfolding HasObjects
-objects-stand heap w h = h.objects
+objects-stand heap w h = h.lists.objects
 
 pub rest-stands : (heap : HeapView) (w : World) → StandsFor heap w → beside heap ≡ beside_world w
 unfolding HasRest
-rest-stands heap w h = h.rest
+rest-stands heap w h = h.lists.rest
 
 pub stand : (heap : HeapView) (w : World) → heap.objects ≡ map seen w.lists.objects → beside heap ≡ beside_world w → StandsFor heap w
 unfolding HasObjects HasRest
-stand heap w os rest = record { objects = os; rest = rest }
+stand heap w os rest = record { lists = record { objects = os; rest = rest } }
 
 pub texts-stand : (heap : HeapView) (w : World) → StandsFor heap w → heap.texts ≡ w.lists.texts
 texts-stand heap w h = ap (λ (b : Beside). b.texts) (rest-stands heap w h)

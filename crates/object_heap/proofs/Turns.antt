@@ -1,6 +1,7 @@
 -- From the stage at which a frame's call stops to what the call comes to: once for all frames.
-use Rattle.std.proofs.Common.{◌≡◌, ℕ, zero, suc, ◌+◌, Bool, true, false, cond, List, Result, Ok, Err, refl, sym, subst, nat_le, arith}
-use Rattle.es_model.specs.declared.answers.Completion.{Completion}
+use Rattle.std.proofs.Common.{ℕ, Bool, true, false, cond, List, Result, Ok, Err, refl, sym, subst, nat_le, arith}
+use Rattle.es_model.specs.declared.answers.Completion.{Completion as Answer}
+use Rattle.es_model.specs.Completions.{Completion, answered}
 use Rattle.es_model.specs.declared.answers.Stop.{Stop}
 use Rattle.es_model.specs.declared.answers.Stop.TheVariants.{Halted, NoMemory}
 use Rattle.es_model.specs.declared.answers.Turn.{Turn}
@@ -8,30 +9,33 @@ use Rattle.es_model.specs.declared.answers.Turn.TheVariants.{Ask, Done}
 use Rattle.es_model.specs.declared.requests.Request.{Request}
 use Rattle.es_model.specs.World.{Lists, World}
 use Rattle.es_model.specs.Changes.{changed, charged}
-use Rattle.es_model.specs.Program.{Program, done, look, change, charge, ask, part, nest, print, Of, Outcome, Ended, Halt, Server, one_more, plus, after, run}
+use Rattle.es_model.specs.Program.{Program, done, look, change, charge, ask, part, nest, print, Task, Of, Outcome, Ended, Halt, Server, one_more, plus, after, run}
 use Rattle.es_model.specs.Stages.{Stage, AtEnd, AtHalt, AtAsk, AtPart, AtNest, AtPrint, stage_of, outcome_at, world_at}
 use Rattle.es_model.specs.Sound.{IsIntact, IsSound}
 use Rattle.es_model.specs.Kept.{FitsTask, IsLater, IsKept}
-use Rattle.es_model.specs.Belongs.{FrameName, Belongs}
+use Rattle.es_model.specs.Belongs.{FrameName, Belongs, HasNames}
 use Rattle.es_model.proofs.Belonging.{names-stay}
 use Rattle.es_model.proofs.Keeping.{later_none, later_then}
 use Rattle.es_model.proofs.Growing.{grows-changed, grows-charged}
 use Rattle.es_model.proofs.Rests.{leaves-changed, charged-script}
+use Rattle.es_model.proofs.Counts.{requests-one_more, requests-plus}
 use Rattle.es_model.proofs.StageFacts.{outcome-stage}
-use Rattle.object_heap.specs.Stands.{HeapView, Goes}
+use Rattle.es_model.proofs.Turning.{stops-turn}
+use Rattle.es_model.specs.Frames.{program_rest}
+use Rattle.object_heap.specs.Stands.{HeapView, Goes, Halts}
 use Rattle.object_heap.specs.Stops.{Stops}
-use Rattle.object_heap.specs.Turns.{world_after, GoesTo, requests_in, HasMore, LeadsOn, IsTurn, KeepsFor, StaysSound, IsKnownSite, KeepsNamed}
+use Rattle.object_heap.specs.Turns.{IsTurnOf, world_after, GoesTo, HasMore, LeadsOn, IsTurn, KeepsFor, StaysSound, IsKnownSite, KeepsNamed}
 
 -- ---- the four cases in which a call stops
 
 -- what holds in each of the four cases holds of every call that stops where its program does
 pub at_stop : {F : Type 0} (rest : F → Completion → Program) (old new : HeapView) (w : World) (M : Stage → Result (Turn F) Stop → Type 0) →
-    ((c : Completion) (v : World) → Goes old new w v → M (AtEnd c v) (Ok (Done c))) →
+    ((c : Answer) (v : World) → Goes old new w v → M (AtEnd (answered c) v) (Ok (Done c))) →
     ((q : Request) (f : F) (v : World) → Goes old new w v → M (AtAsk q (rest f) v) (Ok (Ask q f))) →
-    ((v : World) → Goes old new w v → M (AtHalt v) (Err Halted)) →
+    ((v : World) → Halts old new w v → M (AtHalt v) (Err Halted)) →
     ((stage : Stage) → M stage (Err NoMemory)) →
     (stage : Stage) (r : Result (Turn F) Stop) → Stops rest old new w stage r → M stage r
-at_stop rest old new w M d a h m (AtEnd c v) (Ok (Done e)) s = subst (λ x. M (AtEnd c v) (Ok (Done x))) (sym s.0) (d c v s.1)
+at_stop rest old new w M d a h m (AtEnd c v) (Ok (Done e)) s = subst (λ x. M (AtEnd x v) (Ok (Done e))) s.0 (d e v s.1)
 at_stop rest old new w M d a h m (AtAsk q k v) (Ok (Ask p f)) s =
     subst (λ x. M (AtAsk q x v) (Ok (Ask p f))) s.1 (subst (λ x. M (AtAsk x (rest f) v) (Ok (Ask p f))) s.0 (a p f v s.2))
 at_stop rest old new w M d a h m (AtHalt v) (Err Halted) s = h v s
@@ -58,14 +62,6 @@ goes-to : {F : Type 0} (rest : F → Completion → Program) (old new : HeapView
     Stops rest old new w stage r → GoesTo old new w (world_at stage) r
 goes-to rest old new w stage r s =
     at_stop rest old new w (λ t x. GoesTo old new w (world_at t) x) (λ c v g. g) (λ q f v g. g) (λ v g. g) (λ t. tt) stage r s
-
-requests-one_more : (o : Outcome) → requests_in (one_more o) ≡ suc (requests_in o)
-requests-one_more (Ended c w n) = refl
-requests-one_more (Halt w n) = refl
-
-requests-plus : (n : ℕ) (o : Outcome) → requests_in (plus n o) ≡ n + requests_in o
-requests-plus zero o = omega arith
-requests-plus (suc n) o = let e = requests-one_more (plus n o) in let f = requests-plus n o in omega arith
 
 has-more : (o : Outcome) (next : Completion → World → Outcome) → HasMore (one_more (after o next)) o next
 has-more (Ended c w n) next = let e = requests-one_more (plus n (next c w)) in let f = requests-plus n (next c w) in omega arith
@@ -103,6 +99,10 @@ turn_of rest old new p w r s = record {
   leads = λ S n. subst (λ o. LeadsOn rest (world_after p w) S n o r) (sym (outcome-stage S n p w)) (leads-on rest old new w S n (stage_of p w) r s);
 }
 
+pub stops_turn_of : {F : Type 0} (rest : F → Completion → Program) (p : Program) (old new : HeapView) (w : World) (r : Result (Turn F) Stop) →
+    Stops rest old new w (stage_of p w) r → (S : Server) (n : ℕ) → IsTurnOf (program_rest rest) old new w S n (run S p n w) r
+stops_turn_of rest p old new w r s = stops-turn Goes Halts rest p old new w r s
+
 -- ---- soundness
 
 -- a stage of a kept program
@@ -128,19 +128,19 @@ kept_stage P (part t k) w h = h
 kept_stage P (nest p q) w h = h
 kept_stage P (print bytes p) w h = h
 
-pub sound_of : {F : Type 0} (rest : F → Completion → Program) (old new : HeapView) (started : Request) (p : Program) (w : World) (r : Result (Turn F) Stop) →
+pub sound_of : {F : Type 0} (rest : F → Completion → Program) (old new : HeapView) (started : Task) (p : Program) (w : World) (r : Result (Turn F) Stop) →
     Stops rest old new w (stage_of p w) r → KeepsFor started p w → StaysSound rest started (world_after p w) r
 sound_of rest old new started p w r s h =
-    at_stop rest old new w (λ t x. IsKeptStage (FitsTask (Of started)) t → StaysSound rest started (world_at t) x)
-    (λ c v g k. k) (λ q f v g k. k) (λ v g k. k) (λ t k. tt) (stage_of p w) r s (kept_stage (FitsTask (Of started)) p w h)
+    at_stop rest old new w (λ t x. IsKeptStage (FitsTask started) t → StaysSound rest started (world_at t) x)
+    (λ c v g k. k) (λ q f v g k. k) (λ v g k. k) (λ t k. tt) (stage_of p w) r s (kept_stage (FitsTask started) p w h)
 
 -- ---- what a frame keeps
 
-pub named_ask : {F : Type 0} (names_of : F → List FrameName) (w : World) (q : Request) (f : F) → Belongs names_of w.lists f → IsKnownSite w.script q → KeepsNamed names_of w (Ok (Ask q f))
+pub named_ask : {F : Type 0} (names_of : F → List FrameName) (w : World) (q : Request) (f : F) → Belongs names_of w f → IsKnownSite w.script q → KeepsNamed names_of w (Ok (Ask q f))
 unfolding KeepsNamed
 named_ask names_of w q f b s = (b, s)
 
-pub named_done : {F : Type 0} (names_of : F → List FrameName) (w : World) (c : Completion) → KeepsNamed names_of w (Ok (Done c))
+pub named_done : {F : Type 0} (names_of : F → List FrameName) (w : World) (c : Answer) → KeepsNamed names_of w (Ok (Done c))
 unfolding KeepsNamed
 named_done names_of w c = tt
 
@@ -151,9 +151,15 @@ named_stop names_of w stop = tt
 -- what belongs where the call begins belongs where it stops
 named_later : {F : Type 0} (names_of : F → List FrameName) (w v : World) (r : Result (Turn F) Stop) → IsLater w v → KeepsNamed names_of w r → KeepsNamed names_of v r
 unfolding KeepsNamed
-named_later names_of w v (Ok (Ask q f)) l h = (names-stay (names_of f) w.lists v.lists l.lists h.0, subst (λ x. IsKnownSite x q) (sym l.script) h.1)
+named_later names_of w v (Ok (Ask q f)) l h =
+    (subst (λ x. HasNames x v.lists (names_of f)) (sym l.script) (names-stay w.script (names_of f) w.lists v.lists l.lists h.0), subst (λ x. IsKnownSite x q) (sym l.script) h.1)
 named_later names_of w v (Ok (Done c)) l h = tt
 named_later names_of w v (Err stop) l h = tt
 
 pub named_of : {F : Type 0} (names_of : F → List FrameName) (p : Program) (w : World) (r : Result (Turn F) Stop) → KeepsNamed names_of w r → KeepsNamed names_of (world_after p w) r
 named_of names_of p w r h = named_later names_of w (world_after p w) r (later_stage p w) h
+
+-- what is held of a frame and its request, for who needs it above
+pub named_out : {F : Type 0} (names_of : F → List FrameName) (w : World) (q : Request) (f : F) → KeepsNamed names_of w (Ok (Ask q f)) → Belongs names_of w f × IsKnownSite w.script q
+unfolding KeepsNamed
+named_out names_of w q f h = h

@@ -1,5 +1,6 @@
 pub mod Codes
 pub mod Errors
+pub mod Globals
 pub mod Keys
 pub mod Laws
 pub mod Maps

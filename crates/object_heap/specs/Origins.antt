@@ -1,12 +1,12 @@
--- The origins of a heap: for each number what makes its objects, and what that is in a script.
-use Rattle.std.specs.Prelude.{ℕ, suc, Bool, true, false, ◌&&◌, if◌then◌else◌, List, [], ◌∷◌, nat_eq, slice_index_or}
+-- The origins of a heap: for each number what makes its objects, what that is in a script, and how many fields its objects begin with.
+use Rattle.std.specs.Prelude.{ℕ, suc, ◌+◌, min, max, Bool, true, false, ◌&&◌, if◌then◌else◌, Option, Some, None, List, [], ◌∷◌, nat_eq, slice_get, slice_index_or}
 use Rattle.map_store.specs.declared.OriginId.{OriginId}
 use Rattle.slack_tracking.specs.declared.LiteralPlace.{LiteralPlace}
 use Rattle.slack_tracking.specs.declared.OriginKind.{OriginKind}
 use Rattle.slack_tracking.specs.declared.OriginKind.TheVariants as origin
-use Rattle.es_model.specs.declared.facts.FunctionFacts.{FunctionFacts}
-use Rattle.es_model.specs.declared.facts.LiteralFacts.{LiteralFacts}
-use Rattle.es_model.specs.Tree.{Tree}
+use Rattle.es_tree.specs.declared.facts.FunctionFacts.{FunctionFacts}
+use Rattle.es_tree.specs.declared.facts.LiteralFacts.{LiteralFacts}
+use Rattle.es_tree.specs.Tree.{Tree}
 use Rattle.es_model.specs.Events.{Origin, OfPlain, OfFunction, OfArray, OfArguments, OfWrapper, OfError, OfLiteral, OfConstructor}
 use Rattle.es_model.specs.World.{World}
 use Rattle.es_model.specs.Changes.{Constructing, changed}
@@ -75,3 +75,32 @@ origin_in script (origin.Constructor place) = OfConstructor (record { 0 = functi
 abbrev pub constructed_by : World → OriginKind → World
 constructed_by w (origin.Constructor place) = changed (Constructing (record { 0 = function_at w.script.functions place })) w
 constructed_by w other = w
+
+-- ---- places: the fields of an object that lie in the object itself
+
+-- an object literal has as many as property definitions, at least 4, at most 32
+abbrev pub literal_places : ℕ → ℕ
+literal_places definitions = min (max definitions 4) 32
+
+-- a function that constructs has 8 beside the distinct names N of the assignments `this.N = e` of its own body, at most 32 together
+abbrev pub constructor_places : ℕ → ℕ
+constructor_places this_names = min (this_names + 8) 32
+
+abbrev pub definitions_in : Option LiteralFacts → ℕ
+definitions_in None = 0
+definitions_in (Some literal) = literal.definitions
+
+abbrev pub this_names_in : Option FunctionFacts → ℕ
+this_names_in None = 0
+this_names_in (Some function) = function.this_names
+
+-- the places with which an origin of a script begins
+abbrev pub first_places : Tree → Origin → ℕ
+first_places script OfPlain = 4
+first_places script OfFunction = 4
+first_places script OfArray = 4
+first_places script OfArguments = 4
+first_places script OfWrapper = 4
+first_places script OfError = 4
+first_places script (OfLiteral literal) = literal_places (definitions_in (slice_get script.literals literal.0))
+first_places script (OfConstructor function) = constructor_places (this_names_in (slice_get script.functions function.0))

@@ -6,7 +6,8 @@ use Rattle.property_keys.specs.declared.identifiers.TextId.{TextId}
 use Rattle.property_keys.specs.declared.values.Value.{Value}
 use Rattle.slack_tracking.specs.declared.OriginKind.{OriginKind}
 use Rattle.es_model.specs.Events.{Event}
-use Rattle.es_model.specs.World.{World}
+use Rattle.es_model.specs.World.{World, with_turns}
+use Rattle.es_model.specs.Changes.{printed_more}
 use Rattle.object_heap.specs.Seen.{Seen, seen}
 
 -- a heap as its callers see it, however it is kept. An object, a text, a Symbol, a cell and an origin is named by its place
@@ -39,10 +40,14 @@ beside_world w = record { texts = w.lists.texts; symbols = w.lists.symbols; cell
 unfoldable pub HasRest : HeapView → World → Type 0
 HasRest heap w = beside heap ≡ beside_world w
 
--- The heap has the world's objects, texts, Symbols, cells and turns. The script, the trace and what was printed are in no heap.
-pub record StandsFor (heap : HeapView) (w : World) : Type 0 where
+-- The heap has the world's objects, texts, Symbols, cells and turns, however it keeps them. The script, the trace and what was printed are in no heap.
+pub record HasLists (heap : HeapView) (w : World) : Type 0 where
   pub objects : HasObjects heap w
   pub rest : HasRest heap w
+
+-- The heap stands for the world. Nothing but lists and turns is compared yet; how objects are laid out after the events of the trace is a part beside them.
+pub record StandsFor (heap : HeapView) (w : World) : Type 0 where
+  pub lists : HasLists heap w
 
 -- The second heap follows the first by these events: what was kept of the first still serves after them. Nothing is kept of a heap yet.
 pub record Follows (old new : HeapView) (events : List Event) : Type 0 where
@@ -65,9 +70,9 @@ pub record Goes (old new : HeapView) (w v : World) : Type 0 where
   pub stands : StandsFor new v
   pub follows : Trails old new w.trace v.trace
 
--- after a call that had no memory: the heap stands for each world that it stood for
+-- After a call that had no memory: the lists and turns that the old heap had, the new one has. How objects are laid out may have changed by then.
 abbrev pub Keeps : HeapView → HeapView → Type 0
-Keeps old new = (w : World) → StandsFor old w → StandsFor new w
+Keeps old new = (w : World) → HasLists old w → HasLists new w
 
 pub trails_none : (heap : HeapView) (trace : List Event) → Trails heap heap trace trace
 unfolding Trails
@@ -84,3 +89,27 @@ goes_none heap w h = record { stands = h; follows = trails_none heap w.trace }
 -- one call after another
 pub goes_then : (a b c : HeapView) (u v w : World) → Goes a b u v → Goes b c v w → Goes a c u w
 goes_then a b c u v w p q = record { stands = q.stands; follows = trails_then a b c u.trace v.trace w.trace p.follows q.follows }
+
+-- a print: what was printed is in no heap
+pub goes_printed : (heap : HeapView) (w : World) (bytes : List ℕ) → StandsFor heap w → Goes heap heap w (printed_more w bytes)
+unfolding HasObjects HasRest printed_more
+goes_printed heap w bytes h = record { stands = record { lists = record { objects = h.lists.objects; rest = h.lists.rest } }; follows = trails_none heap w.trace }
+
+-- ---- at a halt
+
+-- At a halt the heap has the world's lists, and may have more turns left: what charges several turns at once takes none of them where they do not fit.
+unfoldable pub HaltsWithin : HeapView → HeapView → World → World → Type 0
+HaltsWithin old new w v = (left : ℕ) × Goes old new w (with_turns v left)
+
+pub record Halts (old new : HeapView) (w v : World) : Type 0 where
+  pub within : HaltsWithin old new w v
+
+-- where no turn was taken of those that do not fit
+pub halts_at : (old new : HeapView) (w v : World) → Goes old new w v → Halts old new w v
+unfolding HaltsWithin
+halts_at old new w v g = record { within = (v.turns, g) }
+
+-- a halt after another call
+pub halts_then : (a b c : HeapView) (u v w : World) → Goes a b u v → Halts b c v w → Halts a c u w
+unfolding HaltsWithin
+halts_then a b c u v w g h = record { within = (h.within.0, goes_then a b c u v (with_turns w h.within.0) g h.within.1) }

@@ -1,7 +1,7 @@
-ghost use Rattle.std.specs.Prelude.{◌≡◌, ◌+◌, ◌++◌, ◌<◌, ◌^◌, ◌↔◌, false, length, nat_le, true, IfOk, IsErrOf, OnErr, OnOk};
+ghost use Rattle.std.specs.Prelude.{◌≡◌, ◌+◌, ◌++◌, ◌<◌, ◌^◌, ◌↔◌, false, length, nat_le, true, IfOk, IfSome, IsErrOf, IsNone, OnErr, OnOk};
 ghost use Rattle.property_keys.specs.Decimals.{whole_units};
 ghost use Rattle.property_keys.specs.Keys.{text_of_key};
-ghost use Rattle.property_keys.specs.Texts.{text_at};
+ghost use Rattle.property_keys.specs.Texts.{text_at, IsUnknown};
 ghost use Rattle.es_model.specs.Changes.{Interning, MakingCell, MakingSymbol, SettingCell, changed, charged};
 ghost use Rattle.es_model.specs.World.{World, cell as cell_of, new_cell, new_symbol, number_of, units_of};
 ghost use Rattle.object_heap.specs.Retains.{Retains};
@@ -22,6 +22,15 @@ impl Heap {
     {
         let id = self.texts.intern(units)?;
         Ok(id)
+    }
+
+    /// The number of these code units, if a text has them. None exactly where none has; where one has, `intern` would change nothing.
+    pub fn find(&self, units: &Units) -> Option<TextId>
+        ensures number { IfSome result (λ id. (w : World) → StandsFor self.now w → id ≡ number_of w.lists units.now) }
+        ensures known { IfSome result (λ id. (w : World) → StandsFor self.now w → Goes self.now self.now w (changed (Interning units.now) w)) }
+        ensures none { (w : World) → StandsFor self.now w → IsNone result ↔ IsUnknown w.lists.texts units.now }
+    {
+        self.texts.find(units)
     }
 
     /// The number of the canonical decimal text of a whole number (ECMA-262, 6.1.6.1.20).

@@ -1,8 +1,7 @@
-ghost use Rattle.std.specs.Prelude.{◌≡◌, IfOk, Option, OnErr, OnOk};
-ghost use Rattle.es_model.specs.Changes.{Making, Revoking, Unmapping, changed, made};
-ghost use Rattle.es_model.specs.Events.{Origin};
+ghost use Rattle.std.specs.Prelude.{◌≡◌, IfOk, OnErr, OnOk};
+ghost use Rattle.es_model.specs.Changes.{Making, Revoking, Unmapping, changed};
 ghost use Rattle.es_model.specs.World.{World, kind as kind_of, new_object};
-ghost use Rattle.object_heap.specs.Origins.{constructed_by, origin_at, origin_in, origin_number};
+ghost use Rattle.object_heap.specs.Origins.{constructed_by, first_places, origin_at, origin_in, origin_number};
 ghost use Rattle.object_heap.specs.Retains.{Retains};
 ghost use Rattle.object_heap.specs.Stands.{Goes, Keeps, StandsFor};
 
@@ -13,11 +12,12 @@ use property_keys::{Ledger, NoMemory, ObjectId, Steps};
 use slack_tracking::OriginKind;
 
 impl Heap {
-    /// The one origin of a kind, new or known. No list changes, and nothing hangs on the number of places yet.
-    pub fn origin_for(&mut self, kind: OriginKind, _places: u32) -> Result<OriginId, NoMemory>
+    /// The one origin of a kind, new or known, with the places with which it begins in the script that runs (`literal_places`, `constructor_places`, else 4).
+    /// No list changes.
+    pub fn origin_for(&mut self, kind: OriginKind, places: u32) -> Result<OriginId, NoMemory>
         ensures number { IfOk result (λ id. id ≡ origin_number self.old kind) }
         ensures kind { IfOk result (λ id. origin_at self.new id ≡ kind) }
-        ensures ok { OnOk result ((w : World) → StandsFor self.old w → Goes self.old self.new w w) }
+        ensures ok { OnOk result ((w : World) → StandsFor self.old w → places ≡ first_places w.script (origin_in w.script kind) → Goes self.old self.new w w) }
         ensures err { OnErr result (Keeps self.old self.new) }
         ensures retains { Retains self.old self.new }
     {
@@ -31,23 +31,7 @@ impl Heap {
         ensures retains { Retains self.old self.new }
     {}
 
-    /// A new object, for each origin that its event may name.
-    pub(crate) fn put(
-        &mut self,
-        kind: ObjectKind,
-        proto: Option<ObjectId>,
-    ) -> Result<ObjectId, NoMemory>
-        ensures object { IfOk result (λ object. (w : World) → StandsFor self.old w → object ≡ new_object w.lists) }
-        ensures ok { OnOk result ((w : World) (origin : Origin) → StandsFor self.old w → Goes self.old self.new w (made w kind origin proto)) }
-        ensures err { OnErr result (Keeps self.old self.new) }
-        ensures retains { Retains self.old self.new }
-    {
-        let object = self.objects.make(self.alloc, kind, proto)?;
-        Ok(object)
-    }
-
     /// A new object without properties. A Proxy has no prototype and takes no properties (ECMA-262, 10.5).
-    #[tactic(auto, unfolding(es_model::specs::Changes::changed))]
     pub fn make<L: Ledger>(
         &mut self,
         kind: ObjectKind,
@@ -60,7 +44,8 @@ impl Heap {
         ensures err { OnErr result (Keeps self.old self.new) }
         ensures retains { Retains self.old self.new }
     {
-        self.put(kind, proto)
+        let object = self.objects.make(self.alloc, kind, proto)?;
+        Ok(object)
     }
 
     /// What an object is.

@@ -1,6 +1,6 @@
 ghost use Rattle.std.specs.Prelude.{◌≡◌, length, IfOk};
 ghost use Rattle.es_model.specs.StartWorld.{start_world};
-ghost use Rattle.es_model.specs.Tree.{Tree};
+ghost use Rattle.es_tree.specs.Tree.{Tree};
 ghost use Rattle.es_model.specs.World.{World};
 ghost use Rattle.object_heap.specs.Stands.{StandsFor};
 

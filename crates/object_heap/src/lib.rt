@@ -20,6 +20,7 @@ pub use laws::{
     heaps_follow_in_turn, heaps_retain_in_turn, indices_ascend, refusals_change_nothing,
     stops_are_turns,
 };
+pub use origins::{constructor_places, literal_places};
 
 #[cfg(test)]
 mod tests;

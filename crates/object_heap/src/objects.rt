@@ -17,15 +17,13 @@ use std::marker::Model;
 #[derive(Drop)]
 pub(crate) struct Objects {
     all: Vec<Held>,
-    /// The kind that stands where no object is, to lend it out.
-    absent: ObjectKind,
 }
 
 impl Model for Objects {
     ghost use Rattle.std.specs.Prelude.{◌≡◌, List, length, ◌<◌, ◌^◌};
-    ghost use Rattle.es_model.specs.declared.kinds.ObjectKind.TheVariants.{Ordinary};
     ghost use Rattle.std.specs.Coded.{coded_list};
     ghost use Rattle.object_heap.specs.Codes.{seen_code};
+    ghost use Rattle.object_heap.specs.Globals.{HasGlobal};
     ghost use Rattle.object_heap.specs.Seen.{Seen};
 
     ghost Value = { List Seen };
@@ -34,7 +32,7 @@ impl Model for Objects {
 
     ghost view = { λ o. o.all.items };
 
-    ghost invariant = { λ o. (length o.all.items < 2 ^ 32) × (o.absent ≡ Ordinary) };
+    ghost invariant = { λ o. (length o.all.items < 2 ^ 32) × HasGlobal o.all.items };
 }
 
 impl Objects {
@@ -49,10 +47,7 @@ impl Objects {
                 return Err(NoMemory);
             };
         }
-        Ok(Objects {
-            all,
-            absent: ObjectKind::Ordinary,
-        })
+        Ok(Objects { all })
     }
 
     /// How many there are.
@@ -93,13 +88,13 @@ impl Objects {
         }
     }
 
-    /// What an object is.
+    /// What an object is. Where no object is, the kind of the global object is lent, which is as ordinary.
     pub(crate) fn kind(&self, object: ObjectId) -> &ObjectKind
         ensures { result.now ≡ (seen_at self.now object).kind }
     {
         match self.held(object) {
             Some(held) => held.kind(),
-            None => &self.absent,
+            None => self.all[0].kind(),
         }
     }
 

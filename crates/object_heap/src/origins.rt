@@ -1,5 +1,5 @@
-ghost use Rattle.std.specs.Prelude.{◌≡◌, ◌↔◌, [], IfOk, IsTrue, OnErr, OnOk};
-ghost use Rattle.object_heap.specs.Origins.{origin_place, same_origin, same_place, with_origin};
+ghost use Rattle.std.specs.Prelude.{◌≡◌, [], IfOk, OnErr, OnOk};
+ghost use Rattle.object_heap.specs.Origins.{constructor_places, literal_places, origin_place, same_origin, same_place, with_origin};
 
 use map_store::OriginId;
 use property_keys::NoMemory;
@@ -63,8 +63,7 @@ fn place_of(kinds: &[OriginKind], kind: OriginKind) -> usize
 }
 
 fn is_same_origin(a: OriginKind, b: OriginKind) -> bool
-    ensures value { result ≡ same_origin a b }
-    ensures equal { IsTrue result ↔ (a ≡ b) }
+    ensures { result ≡ same_origin a b }
 {
     match (a, b) {
         (OriginKind::Plain, OriginKind::Plain)
@@ -80,8 +79,21 @@ fn is_same_origin(a: OriginKind, b: OriginKind) -> bool
 }
 
 fn is_same_place(a: LiteralPlace, b: LiteralPlace) -> bool
-    ensures value { result ≡ same_place a b }
-    ensures equal { IsTrue result ↔ (a ≡ b) }
+    ensures { result ≡ same_place a b }
 {
     a.line == b.line && a.column == b.column
+}
+
+/// How many fields lie in an object of a literal that has so many property definitions: at least 4, at most 32.
+pub fn literal_places(definitions: u32) -> u32
+    ensures { result ≡ literal_places definitions }
+{
+    definitions.max(4).min(32)
+}
+
+/// How many fields lie in an object of a function that constructs and whose own body assigns to so many distinct names of `this`: 8 more, at most 32.
+pub fn constructor_places(this_names: u32) -> u32
+    ensures { result ≡ constructor_places this_names }
+{
+    this_names.min(24) + 8
 }

@@ -1,9 +1,10 @@
-ghost use Rattle.std.specs.Prelude.{◌≡◌, ◌&&◌, not, IfOk, IsSome, None, OnErr, OnOk};
-ghost use Rattle.descriptors.specs.declared.property.Complete.{Complete};
+ghost use Rattle.std.specs.Prelude.{◌≡◌, ◌&&◌, not, IfOk, None, OnErr, OnOk, Some};
 ghost use Rattle.descriptors.specs.Validation as validation;
-ghost use Rattle.es_model.specs.Changes.{Defining, Deleting, Preventing, SettingProto, Storing, added, changed, closed, is_there, removed, replaced, same_proto, with_proto};
+ghost use Rattle.es_model.specs.Changes.{Accessing, Defining, Deleting, Preventing, SettingProto, Storing, added, changed, closed, is_there, removed, replaced, same_proto, with_proto};
+ghost use Rattle.es_model.specs.Events.{Way};
 ghost use Rattle.es_model.specs.Objects.{is_proxy};
 ghost use Rattle.es_model.specs.World.{World, allows, deletes, extensible, kind, own, proto as proto_of};
+ghost use Rattle.es_tree.specs.declared.numbers.SiteId.{SiteId};
 ghost use Rattle.object_heap.specs.Maps.{map_number};
 ghost use Rattle.object_heap.specs.Retains.{Retains};
 ghost use Rattle.object_heap.specs.Seen.{find_seen, seen_at};
@@ -50,20 +51,20 @@ impl Heap {
 
     /// The map of an object; None exactly for an object in dictionary form, and no object has another form yet.
     #[tactic(auto, unfolding(crate::specs::Maps::map_number))]
-    pub fn map_of(&self, _object: ObjectId) -> Option<MapId>
-        ensures { result ≡ map_number self.now _object }
+    pub fn map_of(&self, object: ObjectId) -> Option<MapId>
+        ensures { result ≡ map_number self.now object }
     {
         None
     }
 
-    /// Brings an object off a map that is dead. No list changes.
-    #[tactic(auto, using(crate::specs::Stands::goes_none, crate::proofs::Retaining::retains_none))]
+    /// Notes an access: a read or a write at a site of the script begins with this call on its object, whatever the site, the way and the key. No list changes.
+    #[tactic(auto, using(crate::proofs::Retaining::retains_none))]
     pub fn touch<L: Ledger>(
         &mut self,
-        _object: ObjectId,
+        object: ObjectId,
         _steps: &mut Steps<L>,
     ) -> Result<(), NoMemory>
-        ensures ok { OnOk result ((w : World) → StandsFor self.old w → Goes self.old self.new w w) }
+        ensures ok { OnOk result ((w : World) (site : SiteId) (way : Way) (key : PropKey) → StandsFor self.old w → Goes self.old self.new w (changed (Accessing site way object key) w)) }
         ensures err { OnErr result (Keeps self.old self.new) }
         ensures retains { Retains self.old self.new }
     {
@@ -80,14 +81,16 @@ impl Heap {
         Ok(())
     }
 
+    /// The property that is there becomes another one.
     fn replace(
         &mut self,
         object: ObjectId,
         key: PropKey,
+        before: Complete,
         complete: Complete,
     ) -> Result<(), NoMemory>
-        requires { IsSome (find_seen (seen_at (self.old).objects object) key) }
-        ensures ok { OnOk result ((w : World) (before : Complete) → StandsFor self.old w → Goes self.old self.new w (replaced w object key before complete)) }
+        requires { find_seen (seen_at (self.old).objects object) key ≡ Some before }
+        ensures ok { OnOk result ((w : World) → StandsFor self.old w → Goes self.old self.new w (replaced w object key before complete)) }
         ensures err { OnErr result (Keeps self.old self.new) }
         ensures retains { Retains self.old self.new }
     {
@@ -123,10 +126,9 @@ impl Heap {
             Verdict::Refuse => Ok(false),
             Verdict::Keep => Ok(true),
             Verdict::Apply(complete) => {
-                if current.is_some() {
-                    self.replace(object, key, complete)?;
-                } else {
-                    self.add(object, key, complete)?;
+                match current {
+                    Some(before) => self.replace(object, key, before, complete)?,
+                    None => self.add(object, key, complete)?,
                 }
                 Ok(true)
             }
@@ -156,7 +158,11 @@ impl Heap {
                 if same_value(value, stored) {
                     return Ok(());
                 }
-                self.replace(object, key, Complete::Stored { value, attributes })
+                let before = Complete::Stored {
+                    value: stored,
+                    attributes,
+                };
+                self.replace(object, key, before, Complete::Stored { value, attributes })
             }
             Some(Complete::Accessor { .. }) | None => Ok(()),
         }

@@ -1,4 +1,4 @@
-ghost use Rattle.std.specs.Prelude.{◌≡◌, ◌↔◌, IsTrue, MatchOption, None};
+ghost use Rattle.std.specs.Prelude.{◌≡◌, MatchOption, None};
 ghost use Rattle.es_model.specs.Objects.{find_property, remove_property, same_key};
 ghost use Rattle.object_heap.specs.Places.{IsPlace};
 
@@ -7,8 +7,7 @@ use property_keys::PropKey;
 
 /// Whether two keys are the same. Texts are compared by their numbers, so both must be of one table.
 pub(crate) fn is_same_key(a: PropKey, b: PropKey) -> bool
-    ensures value { result ≡ same_key a b }
-    ensures equal { IsTrue result ↔ (a ≡ b) }
+    ensures { result ≡ same_key a b }
 {
     match (a, b) {
         (PropKey::Index(i), PropKey::Index(j)) => i == j,

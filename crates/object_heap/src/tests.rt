@@ -1,21 +1,21 @@
-//! Calls with their answers, worked out by hand: the start has 28 objects, 28 texts, three Symbols and no cell.
+//! Calls with what they give, worked out by hand.
 
-mod calls;
 mod rows;
-mod same;
+mod steps;
 
 use crate::Heap;
-use calls::answer_of;
 use property_keys::NoMemory;
-use rows::{LONG, ROWS, Row};
-use same::are_same;
+use rows::{BESIDE, OBJECTS};
 use std::alloc::Global;
 use std::test::Fail;
+use steps::{Begun, Step, holds};
 
-/// The first row whose call has another answer.
-fn first_wrong(heap: &mut Heap, rows: &[Row]) -> Result<Option<usize>, NoMemory> {
-    for (i, row) in rows.iter().enumerate() {
-        if answer_of(heap, row.0)? != row.1 {
+/// The first step that gives something else.
+fn first_wrong(alloc: Global, steps: &[Step]) -> Result<Option<usize>, NoMemory> {
+    let mut heap = Heap::new(alloc, 50)?;
+    let begun = Begun::of(&heap);
+    for (i, step) in steps.iter().enumerate() {
+        if !holds(&mut heap, begun, *step)? {
             return Ok(Some(i));
         }
     }
@@ -23,46 +23,13 @@ fn first_wrong(heap: &mut Heap, rows: &[Row]) -> Result<Option<usize>, NoMemory>
 }
 
 #[test]
-fn answers_with_ample_memory(rt: HostRuntime) -> Result<(), Fail> {
-    let mut heap = Heap::new(rt.alloc(), 50)?;
-    assert_eq!(rt; first_wrong(&mut heap, &ROWS)?, None);
-    assert_eq!(rt; first_wrong(&mut heap, &LONG)?, None);
+fn what_is_beside_the_objects(rt: HostRuntime) -> Result<(), Fail> {
+    assert_eq!(rt; first_wrong(rt.alloc(), &BESIDE)?, None);
     Ok(())
 }
 
-/// One growth at most is refused, so what wanted memory is had at the second try.
-fn begun(alloc: Global) -> Result<Heap, NoMemory> {
-    match Heap::new(alloc, 50) {
-        Ok(heap) => Ok(heap),
-        Err(NoMemory) => Heap::new(alloc, 50),
-    }
-}
-
-/// The first row whose call wants memory and does not leave its heap as the other one, which is not given the call yet.
-fn first_changed(
-    heap: &mut Heap,
-    before: &mut Heap,
-    rows: &[Row],
-) -> Result<Option<usize>, NoMemory> {
-    for (i, row) in rows.iter().enumerate() {
-        if answer_of(heap, row.0).is_err()
-            && (!are_same(heap, before)? || answer_of(heap, row.0)? != row.1)
-        {
-            return Ok(Some(i));
-        }
-        if answer_of(before, row.0).is_err() && answer_of(before, row.0)? != row.1 {
-            return Ok(Some(i));
-        }
-    }
-    Ok(None)
-}
-
-/// Two heaps are given the same calls. (`rt try --test --fail-alloc N` refuses the N-th growth.)
 #[test]
-fn refusals_leave_all_as_before(rt: HostRuntime) -> Result<(), Fail> {
-    let mut heap = begun(rt.alloc())?;
-    let mut before = begun(rt.alloc())?;
-    assert_eq!(rt; first_changed(&mut heap, &mut before, &ROWS)?, None);
-    assert!(rt; are_same(&heap, &before)?);
+fn objects_and_their_properties(rt: HostRuntime) -> Result<(), Fail> {
+    assert_eq!(rt; first_wrong(rt.alloc(), &OBJECTS)?, None);
     Ok(())
 }

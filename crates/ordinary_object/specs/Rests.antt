@@ -1,7 +1,7 @@
 -- What is left of an algorithm of an ordinary object where a frame waits.
-use Rattle.es_model.specs.declared.answers.Completion.{Completion}
+use Rattle.es_model.specs.Completions.{Completion}
 use Rattle.es_model.specs.Program.{Program, done}
-use Rattle.es_model.specs.programs.Ordinary.{set_had, set_called}
+use Rattle.ordinary_object.specs.Ordinary.{set_had, set_called}
 use Rattle.ordinary_object.specs.declared.frame.OrdinaryFrame.{OrdinaryFrame}
 use Rattle.ordinary_object.specs.declared.frame.OrdinaryFrame.TheVariants.{ParentHas, ParentGet, GetterCalled, ParentSet, ReceiverHad, ReceiverDefined, SetterCalled}
 

@@ -1,6 +1,6 @@
 ghost use Rattle.es_model.specs.Stages.{stage_of};
 ghost use Rattle.es_model.specs.World.{World};
-ghost use Rattle.es_model.specs.programs.Ordinary.{extensible_program, prevent_program};
+ghost use Rattle.ordinary_object.specs.Ordinary.{extensible_program, prevent_program};
 ghost use Rattle.object_heap.specs.Retains.{Retains};
 ghost use Rattle.object_heap.specs.Stands.{StandsFor};
 ghost use Rattle.object_heap.specs.Stops.{Stops};

@@ -2,7 +2,7 @@ ghost use Rattle.std.specs.Prelude.{◌≡◌};
 ghost use Rattle.es_model.specs.Changes.{same_proto};
 ghost use Rattle.es_model.specs.Stages.{stage_of};
 ghost use Rattle.es_model.specs.World.{World};
-ghost use Rattle.es_model.specs.programs.Ordinary.{get_proto_program, immutable_set_proto, ordinary_set_proto, same_object, set_proto_program};
+ghost use Rattle.ordinary_object.specs.Ordinary.{get_proto_program, immutable_set_proto, ordinary_set_proto, same_object, set_proto_program};
 ghost use Rattle.object_heap.specs.Retains.{Retains};
 ghost use Rattle.object_heap.specs.Stands.{StandsFor};
 ghost use Rattle.object_heap.specs.Stops.{Stops};

@@ -1,8 +1,9 @@
 ghost use Rattle.std.specs.Prelude.{◌≡◌};
+ghost use Rattle.es_model.specs.Completions.{answered};
 ghost use Rattle.es_model.specs.Known.{IsKnown, IsKnownKey};
 ghost use Rattle.es_model.specs.Stages.{stage_of};
 ghost use Rattle.es_model.specs.World.{World};
-ghost use Rattle.es_model.specs.programs.Ordinary.{set_existing, set_had, set_receiver, value_alone, with_three_true};
+ghost use Rattle.ordinary_object.specs.Ordinary.{set_existing, set_had, set_receiver, value_alone, with_three_true};
 ghost use Rattle.object_heap.specs.Retains.{Retains};
 ghost use Rattle.object_heap.specs.Stands.{StandsFor};
 ghost use Rattle.object_heap.specs.Stops.{Stops};
@@ -55,22 +56,13 @@ pub(crate) fn set_had(
     setting: Setting,
     answer: Completion,
 ) -> Result<Turn<OrdinaryFrame>, Stop>
-    ensures stops { (w : World) → StandsFor heap.old w → Stops program_after heap.old heap.new w (stage_of (set_had setting.key setting.value setting.receiver answer) w) result }
+    ensures stops { (w : World) → StandsFor heap.old w → Stops program_after heap.old heap.new w (stage_of (set_had setting.key setting.value setting.receiver (answered answer)) w) result }
     ensures named { (w : World) → KeepsNamed names_of w result }
     ensures retains { Retains heap.old heap.new }
 {
-    match answer {
-        Completion::Throw(thrown) => Ok(Turn::Done(Completion::Throw(thrown))),
-        Completion::Normal(Reply::Property(existing)) => { set_existing(heap, setting, existing) }
-        Completion::Normal(
-            Reply::Value(_)
-            | Reply::Flag(_)
-            | Reply::Keys(_)
-            | Reply::Key(_)
-            | Reply::Proto(_)
-            | Reply::List(_)
-            | Reply::Wanted(_),
-        ) => Ok(Turn::Done(Completion::Throw(Value::Undefined))),
+    match answer.property() {
+        Ok(existing) => set_existing(heap, setting, existing),
+        Err(thrown) => Ok(Turn::Done(Completion::Throw(thrown))),
     }
 }
 

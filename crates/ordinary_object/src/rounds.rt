@@ -2,7 +2,7 @@ ghost use Rattle.std.specs.Prelude.{◌≡◌, ℕ, suc, length};
 ghost use Rattle.es_model.specs.Objects.{is_proxy};
 ghost use Rattle.es_model.specs.Stages.{stage_of};
 ghost use Rattle.es_model.specs.World.{World};
-ghost use Rattle.es_model.specs.programs.Ordinary.{set_proto_round};
+ghost use Rattle.ordinary_object.specs.Ordinary.{set_proto_round};
 ghost use Rattle.object_heap.specs.Retains.{Retains};
 ghost use Rattle.object_heap.specs.Stands.{StandsFor};
 ghost use Rattle.object_heap.specs.Stops.{Stops};

@@ -1,7 +1,8 @@
+ghost use Rattle.es_model.specs.Completions.{answered};
 ghost use Rattle.es_model.specs.Known.{IsKnown, IsKnownKey};
 ghost use Rattle.es_model.specs.Stages.{stage_of};
 ghost use Rattle.es_model.specs.World.{World};
-ghost use Rattle.es_model.specs.programs.Ordinary.{set_called, set_program};
+ghost use Rattle.ordinary_object.specs.Ordinary.{set_called, set_program};
 ghost use Rattle.object_heap.specs.Retains.{Retains};
 ghost use Rattle.object_heap.specs.Stands.{StandsFor};
 ghost use Rattle.object_heap.specs.Stops.{Stops};
@@ -76,12 +77,12 @@ pub(crate) fn set<L: Ledger>(
 
 /// What follows step 6 of 10.1.9.2.
 pub(crate) fn set_called(heap: &mut Heap, answer: Completion) -> Result<Turn<OrdinaryFrame>, Stop>
-    ensures stops { (w : World) → StandsFor heap.old w → Stops program_after heap.old heap.new w (stage_of (set_called answer) w) result }
+    ensures stops { (w : World) → StandsFor heap.old w → Stops program_after heap.old heap.new w (stage_of (set_called (answered answer)) w) result }
     ensures named { (w : World) → KeepsNamed names_of w result }
     ensures retains { Retains heap.old heap.new }
 {
-    match answer {
-        Completion::Normal(_) => Ok(Turn::Done(Completion::Normal(Reply::Flag(true)))),
-        Completion::Throw(thrown) => Ok(Turn::Done(Completion::Throw(thrown))),
+    match answer.value() {
+        Ok(_) => Ok(Turn::Done(Completion::Normal(Reply::Flag(true)))),
+        Err(thrown) => Ok(Turn::Done(Completion::Throw(thrown))),
     }
 }

@@ -1,4 +1,4 @@
-//! Steps with what is seen of them, worked out by hand from the steps of the standard: the start has 28 objects.
+//! Steps with what is seen of them, worked out by hand from the steps of the standard.
 
 mod rows;
 mod seen;
@@ -12,11 +12,28 @@ use std::alloc::Global;
 use std::test::Fail;
 use steps::seen_of;
 
-/// The first row of which something else is seen, over the start objects and so many turns.
-fn first_wrong(alloc: Global, turns: u64, rows: &[Row]) -> Result<Option<usize>, NoMemory> {
-    let mut heap = Heap::new(alloc, turns)?;
+/// A path through the methods, over the start objects and so many turns.
+#[derive(Clone, Copy)]
+struct Path {
+    turns: u64,
+    rows: &'static [Row],
+}
+
+/// The first row of a path of which something else is seen.
+fn first_wrong(alloc: Global, path: Path) -> Result<Option<usize>, NoMemory> {
+    let mut heap = Heap::new(alloc, path.turns)?;
     let mut waiting = None;
-    first_wrong_of(&mut heap, &mut waiting, rows)
+    first_wrong_of(&mut heap, &mut waiting, path.rows)
+}
+
+/// The first path with a wrong row, and the number of that row.
+fn first_wrong_path(alloc: Global) -> Result<Option<(usize, usize)>, NoMemory> {
+    for number in 0..PATHS {
+        if let Some(row) = first_wrong(alloc, numbered(number))? {
+            return Ok(Some((number, row)));
+        }
+    }
+    Ok(None)
 }
 
 fn first_wrong_of(
@@ -32,146 +49,60 @@ fn first_wrong_of(
     Ok(None)
 }
 
-#[test]
-fn an_absent_key_at_a_null_prototype(rt: HostRuntime) -> Result<(), Fail> {
-    assert_eq!(rt; first_wrong(rt.alloc(), 0, &rows::ABSENT)?, None);
-    Ok(())
+/// How many paths there are.
+const PATHS: usize = 20;
+
+fn numbered(number: usize) -> Path {
+    match number {
+        // an absent key at a null prototype
+        0 => over(0, &rows::ABSENT),
+        // a getter of the prototype
+        1 => over(1, &rows::GETTER_OF_THE_PROTOTYPE),
+        // a data property and an accessor without a getter
+        2 => over(0, &rows::WITHOUT_A_GETTER),
+        // a key of the prototype is had
+        3 => over(1, &rows::KEY_OF_THE_PROTOTYPE_HAD),
+        // the turn of a halt on a chain
+        4 => over(1, &rows::HALT_ON_A_CHAIN),
+        // refusals of set before a question
+        5 => over(0, &rows::REFUSED_BEFORE_A_QUESTION),
+        // refusals of set by the receiver
+        6 => over(0, &rows::REFUSED_BY_THE_RECEIVER),
+        // a property of the receiver is set
+        7 => over(0, &rows::PROPERTY_OF_THE_RECEIVER),
+        // a receiver that takes no property
+        8 => over(0, &rows::CLOSED_RECEIVER),
+        // a key of the prototype is set
+        9 => over(1, &rows::KEY_OF_THE_PROTOTYPE_SET),
+        // a setter that changes the receiver
+        10 => over(0, &rows::SETTER_CHANGES_THE_RECEIVER),
+        // a receiver that changes before the answer
+        11 => over(0, &rows::RECEIVER_CHANGES),
+        // the rounds up a chain
+        12 => over(4, &rows::ROUNDS_UP_A_CHAIN),
+        // a halt in the rounds
+        13 => over(1, &rows::HALT_IN_THE_ROUNDS),
+        // a cycle is refused
+        14 => over(2, &rows::CYCLE),
+        // the prototype of a closed object
+        15 => over(0, &rows::CLOSED),
+        // the prototype that never changes
+        16 => over(5, &rows::NEVER_CHANGES),
+        // own properties
+        17 => over(0, &rows::OWN_PROPERTIES),
+        // own keys
+        18 => over(0, &rows::OWN_KEYS),
+        // what does not fit
+        _ => over(0, &rows::DOES_NOT_FIT),
+    }
+}
+
+fn over(turns: u64, rows: &'static [Row]) -> Path {
+    Path { turns, rows }
 }
 
 #[test]
-fn a_getter_of_the_prototype(rt: HostRuntime) -> Result<(), Fail> {
-    assert_eq!(rt;
-        first_wrong(rt.alloc(), 1, &rows::GETTER_OF_THE_PROTOTYPE)?,
-        None
-    );
-    Ok(())
-}
-
-#[test]
-fn a_data_property_and_an_accessor_without_a_getter(rt: HostRuntime) -> Result<(), Fail> {
-    assert_eq!(rt; first_wrong(rt.alloc(), 0, &rows::WITHOUT_A_GETTER)?, None);
-    Ok(())
-}
-
-#[test]
-fn a_key_of_the_prototype_is_had(rt: HostRuntime) -> Result<(), Fail> {
-    assert_eq!(rt;
-        first_wrong(rt.alloc(), 1, &rows::KEY_OF_THE_PROTOTYPE_HAD)?,
-        None
-    );
-    Ok(())
-}
-
-#[test]
-fn the_turn_of_a_halt_on_a_chain(rt: HostRuntime) -> Result<(), Fail> {
-    assert_eq!(rt; first_wrong(rt.alloc(), 1, &rows::HALT_ON_A_CHAIN)?, None);
-    Ok(())
-}
-
-#[test]
-fn refusals_of_set_before_a_question(rt: HostRuntime) -> Result<(), Fail> {
-    assert_eq!(rt;
-        first_wrong(rt.alloc(), 0, &rows::REFUSED_BEFORE_A_QUESTION)?,
-        None
-    );
-    Ok(())
-}
-
-#[test]
-fn refusals_of_set_by_the_receiver(rt: HostRuntime) -> Result<(), Fail> {
-    assert_eq!(rt;
-        first_wrong(rt.alloc(), 0, &rows::REFUSED_BY_THE_RECEIVER)?,
-        None
-    );
-    Ok(())
-}
-
-#[test]
-fn a_property_of_the_receiver_is_set(rt: HostRuntime) -> Result<(), Fail> {
-    assert_eq!(rt;
-        first_wrong(rt.alloc(), 0, &rows::PROPERTY_OF_THE_RECEIVER)?,
-        None
-    );
-    Ok(())
-}
-
-#[test]
-fn a_receiver_that_takes_no_property(rt: HostRuntime) -> Result<(), Fail> {
-    assert_eq!(rt; first_wrong(rt.alloc(), 0, &rows::CLOSED_RECEIVER)?, None);
-    Ok(())
-}
-
-#[test]
-fn a_key_of_the_prototype_is_set(rt: HostRuntime) -> Result<(), Fail> {
-    assert_eq!(rt;
-        first_wrong(rt.alloc(), 1, &rows::KEY_OF_THE_PROTOTYPE_SET)?,
-        None
-    );
-    Ok(())
-}
-
-#[test]
-fn a_setter_that_changes_the_receiver(rt: HostRuntime) -> Result<(), Fail> {
-    assert_eq!(rt;
-        first_wrong(rt.alloc(), 0, &rows::SETTER_CHANGES_THE_RECEIVER)?,
-        None
-    );
-    Ok(())
-}
-
-#[test]
-fn a_receiver_that_changes_before_the_answer(rt: HostRuntime) -> Result<(), Fail> {
-    assert_eq!(rt; first_wrong(rt.alloc(), 0, &rows::RECEIVER_CHANGES)?, None);
-    Ok(())
-}
-
-#[test]
-fn the_rounds_up_a_chain(rt: HostRuntime) -> Result<(), Fail> {
-    assert_eq!(rt; first_wrong(rt.alloc(), 4, &rows::ROUNDS_UP_A_CHAIN)?, None);
-    Ok(())
-}
-
-#[test]
-fn a_halt_in_the_rounds(rt: HostRuntime) -> Result<(), Fail> {
-    assert_eq!(rt;
-        first_wrong(rt.alloc(), 1, &rows::HALT_IN_THE_ROUNDS)?,
-        None
-    );
-    Ok(())
-}
-
-#[test]
-fn a_cycle_is_refused(rt: HostRuntime) -> Result<(), Fail> {
-    assert_eq!(rt; first_wrong(rt.alloc(), 2, &rows::CYCLE)?, None);
-    Ok(())
-}
-
-#[test]
-fn the_prototype_of_a_closed_object(rt: HostRuntime) -> Result<(), Fail> {
-    assert_eq!(rt; first_wrong(rt.alloc(), 0, &rows::CLOSED)?, None);
-    Ok(())
-}
-
-#[test]
-fn the_prototype_that_never_changes(rt: HostRuntime) -> Result<(), Fail> {
-    assert_eq!(rt; first_wrong(rt.alloc(), 5, &rows::NEVER_CHANGES)?, None);
-    Ok(())
-}
-
-#[test]
-fn own_properties(rt: HostRuntime) -> Result<(), Fail> {
-    assert_eq!(rt; first_wrong(rt.alloc(), 0, &rows::OWN_PROPERTIES)?, None);
-    Ok(())
-}
-
-#[test]
-fn own_keys(rt: HostRuntime) -> Result<(), Fail> {
-    assert_eq!(rt; first_wrong(rt.alloc(), 0, &rows::OWN_KEYS)?, None);
-    Ok(())
-}
-
-#[test]
-fn what_does_not_fit(rt: HostRuntime) -> Result<(), Fail> {
-    assert_eq!(rt; first_wrong(rt.alloc(), 0, &rows::DOES_NOT_FIT)?, None);
+fn each_path_is_that_of_its_steps(rt: HostRuntime) -> Result<(), Fail> {
+    assert_eq!(rt; first_wrong_path(rt.alloc())?, None);
     Ok(())
 }

@@ -1,15 +1,17 @@
+ghost use Rattle.es_model.specs.Completions.{answered};
 ghost use Rattle.es_model.specs.Fits.{IsKnownRequest};
 ghost use Rattle.es_model.specs.Sound.{IsSound};
 ghost use Rattle.es_model.specs.Stages.{stage_of};
 ghost use Rattle.es_model.specs.World.{World};
-ghost use Rattle.es_model.specs.declared.requests.Request.{Request as Started};
-ghost use Rattle.es_model.specs.programs.Ordinary.{ordinary_program};
+ghost use Rattle.es_model.specs.Program.{Of, Task};
+ghost use Rattle.ordinary_object.specs.Ordinary.{ordinary_program};
 ghost use Rattle.object_heap.specs.Retains.{Retains};
 ghost use Rattle.object_heap.specs.Stands.{StandsFor};
 ghost use Rattle.object_heap.specs.Stops.{Stops};
 ghost use Rattle.object_heap.specs.Turns.{IsTurn, KeepsFor, KeepsNamed, StaysSound, world_after};
 ghost use Rattle.ordinary_object.specs.Names.{names_of};
 ghost use Rattle.ordinary_object.specs.Rests.{program_after};
+ghost use Rattle.ordinary_object.specs.Serving.{IsForOrdinary};
 
 use crate::OrdinaryFrame;
 use crate::extensions::{extensible, prevent};
@@ -36,7 +38,7 @@ pub fn start<L: Ledger>(
 ) -> Result<Turn<OrdinaryFrame>, Stop>
     ensures stops { (w : World) → StandsFor heap.old w → Stops program_after heap.old heap.new w (stage_of (ordinary_program request.now) w) result }
     ensures turn { (w : World) → StandsFor heap.old w → IsTurn program_after heap.old heap.new (ordinary_program request.now) w result }
-    ensures sound { (w : World) → StandsFor heap.old w → IsSound w → IsKnownRequest w.lists request.now → StaysSound program_after request.now (world_after (ordinary_program request.now) w) result }
+    ensures sound { (w : World) → StandsFor heap.old w → IsSound w → IsKnownRequest w.lists request.now → IsForOrdinary w.lists request.now → StaysSound program_after (Of request.now) (world_after (ordinary_program request.now) w) result }
     ensures belongs { (w : World) → StandsFor heap.old w → IsKnownRequest w.lists request.now → KeepsNamed names_of (world_after (ordinary_program request.now) w) result }
     ensures retains { Retains heap.old heap.new }
 {
@@ -54,10 +56,10 @@ pub fn resume<L: Ledger>(
     answer: Completion,
     _steps: &mut Steps<L>,
 ) -> Result<Turn<OrdinaryFrame>, Stop>
-    ensures stops { (w : World) → StandsFor heap.old w → Stops program_after heap.old heap.new w (stage_of (program_after frame answer) w) result }
-    ensures turn { (w : World) → StandsFor heap.old w → IsTurn program_after heap.old heap.new (program_after frame answer) w result }
-    ensures sound { (started : Started) (w : World) → StandsFor heap.old w → KeepsFor started (program_after frame answer) w → StaysSound program_after started (world_after (program_after frame answer) w) result }
-    ensures belongs { (w : World) → StandsFor heap.old w → KeepsNamed names_of (world_after (program_after frame answer) w) result }
+    ensures stops { (w : World) → StandsFor heap.old w → Stops program_after heap.old heap.new w (stage_of (program_after frame (answered answer)) w) result }
+    ensures turn { (w : World) → StandsFor heap.old w → IsTurn program_after heap.old heap.new (program_after frame (answered answer)) w result }
+    ensures sound { (started : Task) (w : World) → StandsFor heap.old w → KeepsFor started (program_after frame (answered answer)) w → StaysSound program_after started (world_after (program_after frame (answered answer)) w) result }
+    ensures belongs { (w : World) → StandsFor heap.old w → KeepsNamed names_of (world_after (program_after frame (answered answer)) w) result }
     ensures retains { Retains heap.old heap.new }
 {
     next_turn(heap, frame, answer)
@@ -112,7 +114,7 @@ fn next_turn(
     frame: OrdinaryFrame,
     answer: Completion,
 ) -> Result<Turn<OrdinaryFrame>, Stop>
-    ensures stops { (w : World) → StandsFor heap.old w → Stops program_after heap.old heap.new w (stage_of (program_after frame answer) w) result }
+    ensures stops { (w : World) → StandsFor heap.old w → Stops program_after heap.old heap.new w (stage_of (program_after frame (answered answer)) w) result }
     ensures named { (w : World) → KeepsNamed names_of w result }
     ensures retains { Retains heap.old heap.new }
 {

@@ -1,6 +1,6 @@
 -- What the machine makes of a script is the script's tree.
 use Rattle.std.proofs.Common.{◌≡◌, ◌∙◌, ap, sym, refl, subst, ℕ, Bool, List, [], None}
-use Rattle.es_model.specs.Tree.{IsTree}
+use Rattle.es_tree.specs.Tree.{IsTree}
 use Rattle.script_grammar.specs.declared.leaf.Leaf.{Leaf}
 use Rattle.script_grammar.specs.Tree.{Tree}
 use Rattle.script_rules.specs.declared.role.Role.TheVariants as role

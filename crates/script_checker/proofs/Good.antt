@@ -1,22 +1,22 @@
 -- The tree of any part is a good one, where what stood before it is.
 use Rattle.std.proofs.Common.{◌≡◌, ◌<◌, ◌≤◌, ◌++◌, ap, sym, refl, subst, ℕ, ◌+◌, Bool, true, false, if◌then◌else◌, List, [], ◌∷◌, length, length-append, flat_map, Option, Some, None, arith}
 use Rattle.std.specs.List.{AllByRecursion}
-use Rattle.es_model.specs.declared.body.Body.{Body}
-use Rattle.es_model.specs.declared.expressions.Access.TheVariants as access
-use Rattle.es_model.specs.declared.expressions.Operator.TheVariants as operator
-use Rattle.es_model.specs.declared.facts.LiteralFacts.{LiteralFacts}
-use Rattle.es_model.specs.declared.node.Node.{Node}
-use Rattle.es_model.specs.declared.node.Node.TheVariants as node
-use Rattle.es_model.specs.declared.numbers.NodeId.{NodeId}
-use Rattle.es_model.specs.declared.numbers.SiteId.{SiteId}
-use Rattle.es_model.specs.declared.place.Place.{Place}
-use Rattle.es_model.specs.declared.primaries.Primary.TheVariants as primary
-use Rattle.es_model.specs.declared.primaries.Property.{Property}
-use Rattle.es_model.specs.declared.primaries.Property.TheVariants as property
-use Rattle.es_model.specs.declared.statements.Block.{Block}
-use Rattle.es_model.specs.declared.statements.Declared.{Declared}
-use Rattle.es_model.specs.declared.statements.Statement.TheVariants as statement
-use Rattle.es_model.specs.Tree.{IsBody, IsTree, NamesKnown, catch_children, key_children, last_children, optional, property_children, target_children}
+use Rattle.es_tree.specs.declared.body.Body.{Body}
+use Rattle.es_tree.specs.declared.expressions.Access.TheVariants as access
+use Rattle.es_tree.specs.declared.expressions.Operator.TheVariants as operator
+use Rattle.es_tree.specs.declared.facts.LiteralFacts.{LiteralFacts}
+use Rattle.es_tree.specs.declared.node.Node.{Node}
+use Rattle.es_tree.specs.declared.node.Node.TheVariants as node
+use Rattle.es_tree.specs.declared.numbers.NodeId.{NodeId}
+use Rattle.es_tree.specs.declared.numbers.SiteId.{SiteId}
+use Rattle.es_source.specs.declared.place.Place.{Place}
+use Rattle.es_tree.specs.declared.primaries.Primary.TheVariants as primary
+use Rattle.es_tree.specs.declared.primaries.Property.{Property}
+use Rattle.es_tree.specs.declared.primaries.Property.TheVariants as property
+use Rattle.es_tree.specs.declared.statements.Block.{Block}
+use Rattle.es_tree.specs.declared.statements.Declared.{Declared}
+use Rattle.es_tree.specs.declared.statements.Statement.TheVariants as statement
+use Rattle.es_tree.specs.Tree.{IsBody, IsTree, NamesKnown, catch_children, key_children, last_children, optional, property_children, target_children}
 use Rattle.script_grammar.specs.declared.leaf.Leaf.{Leaf}
 use Rattle.script_grammar.specs.declared.labels.Atom.{Atom}
 use Rattle.script_grammar.specs.declared.labels.Atom.TheVariants as atom

@@ -1,18 +1,18 @@
 -- What is made names only what was made before.
 use Rattle.std.proofs.Common.{◌≡◌, ◌<◌, ◌≤◌, ◌++◌, subst, ℕ, suc, zero, ◌+◌, false, List, [], ◌∷◌, length, length-append, Option, Some, None, slice_get, arith}
 use Rattle.std.specs.List.{AllByRecursion}
-use Rattle.es_model.specs.declared.body.Body.{Body}
-use Rattle.es_model.specs.declared.body.DeclaredFunction.{DeclaredFunction}
-use Rattle.es_model.specs.declared.expressions.Access.{Access}
-use Rattle.es_model.specs.declared.expressions.Access.TheVariants as access
-use Rattle.es_model.specs.declared.node.Node.{Node}
-use Rattle.es_model.specs.declared.node.Node.TheVariants as node
-use Rattle.es_model.specs.declared.numbers.NodeId.{NodeId}
-use Rattle.es_model.specs.declared.numbers.SiteId.{SiteId}
-use Rattle.es_model.specs.declared.place.Place.{Place}
-use Rattle.es_model.specs.declared.primaries.Primary.{Primary}
-use Rattle.es_model.specs.declared.primaries.Primary.TheVariants as primary
-use Rattle.es_model.specs.Tree.{IsBody, IsOrdered, NamesKnown, children_of, empty_body, key_children, optional, property_children}
+use Rattle.es_tree.specs.declared.body.Body.{Body}
+use Rattle.es_tree.specs.declared.body.DeclaredFunction.{DeclaredFunction}
+use Rattle.es_tree.specs.declared.expressions.Access.{Access}
+use Rattle.es_tree.specs.declared.expressions.Access.TheVariants as access
+use Rattle.es_tree.specs.declared.node.Node.{Node}
+use Rattle.es_tree.specs.declared.node.Node.TheVariants as node
+use Rattle.es_tree.specs.declared.numbers.NodeId.{NodeId}
+use Rattle.es_tree.specs.declared.numbers.SiteId.{SiteId}
+use Rattle.es_source.specs.declared.place.Place.{Place}
+use Rattle.es_tree.specs.declared.primaries.Primary.{Primary}
+use Rattle.es_tree.specs.declared.primaries.Primary.TheVariants as primary
+use Rattle.es_tree.specs.Tree.{IsBody, IsOrdered, NamesKnown, children_of, empty_body, key_children, optional, property_children}
 use Rattle.script_checker.specs.declared.values.Item.{Item}
 use Rattle.script_checker.specs.declared.values.Item.TheVariants as item
 use Rattle.script_checker.specs.declared.values.Value.{Value}

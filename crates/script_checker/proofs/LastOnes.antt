@@ -4,9 +4,9 @@ use Rattle.std.specs.List.{list_any}
 use Rattle.std.proofs.lemmas.Bool.{cases_Bool}
 use Rattle.std.proofs.lemmas.Slice.Eq.{bytes_eq-Decides}
 use Rattle.property_keys.specs.Texts.{interned}
-use Rattle.es_model.specs.declared.body.DeclaredFunction.{DeclaredFunction}
-use Rattle.es_model.specs.declared.names.Named.{Named}
-use Rattle.es_model.specs.declared.numbers.FunctionNo.{FunctionNo}
+use Rattle.es_tree.specs.declared.body.DeclaredFunction.{DeclaredFunction}
+use Rattle.es_tree.specs.declared.names.Named.{Named}
+use Rattle.es_tree.specs.declared.numbers.FunctionNo.{FunctionNo}
 use Rattle.script_checker.specs.declared.values.Item.{Item}
 use Rattle.script_checker.specs.Values.{function_of, functions_in, is_named, with_function}
 

@@ -1,14 +1,14 @@
 -- The tree of a file, and what `check` promises.
 use Rattle.std.specs.Prelude.{◌≡◌, ℕ, List, Some, None, Result, Ok, Err}
-use Rattle.es_model.specs.Reading.{Reading, reading_of}
-use Rattle.es_model.specs.Tree.{Tree as Checked}
+use Rattle.es_source.specs.Reading.{Reading, reading_of}
+use Rattle.es_tree.specs.Tree.{Tree as Checked}
 use Rattle.script_grammar.specs.Completed.{Derives}
 use Rattle.script_grammar.specs.Scripts.{Parts, Stands}
 use Rattle.script_grammar.specs.Tree.{Tree}
 use Rattle.script_rules.specs.Faults.{static_fault}
 use Rattle.script_rules.specs.FirstFault.{leaves_of}
-use Rattle.script_syntax.specs.declared.stop.ReadStop.{ReadStop}
-use Rattle.script_syntax.specs.declared.stop.ReadStop.TheVariants.{Fault, NoMemory}
+use Rattle.es_source.specs.declared.stop.ReadStop.{ReadStop}
+use Rattle.es_source.specs.declared.stop.ReadStop.TheVariants.{Fault, NoMemory}
 use Rattle.script_checker.specs.Made.{checked_tree}
 
 -- Of a script that stands for this tree: its tree where it has no fault of the static rules, and else the first one. Want of memory is free.

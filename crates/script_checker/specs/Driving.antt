@@ -1,6 +1,6 @@
 -- The tasks of the machine that makes the tree of a script.
 use Rattle.std.specs.Prelude.{◌≡◌, ◌<◌, ℕ, ◌+◌, Bool, List, [], ◌∷◌}
-use Rattle.es_model.specs.Tree.{Tree as Checked}
+use Rattle.es_tree.specs.Tree.{Tree as Checked}
 use Rattle.script_grammar.specs.declared.node.Node.{Node}
 use Rattle.script_grammar.specs.Scripts.{Parts}
 use Rattle.script_grammar.specs.Tree.{Tree}

@@ -1,34 +1,34 @@
 -- The tree of a script: its nodes in the order in which they end in the source, each after its parts, with the functions, literals and sites that they name.
 use Rattle.std.specs.Prelude.{ℕ, ℤ, pos, Bool, true, false, ◌||◌, List, [], ◌∷◌, ◌++◌, length, codes, bytes_eq, Option, Some, None, slice_get, if◌then◌else◌}
 use Rattle.property_keys.specs.Decimals.{whole_units}
-use Rattle.es_model.specs.declared.body.Body.{Body}
-use Rattle.es_model.specs.declared.expressions.AssignOperator.{AssignOperator}
-use Rattle.es_model.specs.declared.expressions.AssignOperator.TheVariants as assign
-use Rattle.es_model.specs.declared.expressions.Access.{Access}
-use Rattle.es_model.specs.declared.expressions.Access.TheVariants as access
-use Rattle.es_model.specs.declared.expressions.Operator.{Operator}
-use Rattle.es_model.specs.declared.expressions.Operator.TheVariants as operator
-use Rattle.es_model.specs.declared.expressions.UnaryOperator.{UnaryOperator}
-use Rattle.es_model.specs.declared.facts.FunctionFacts.{FunctionFacts}
-use Rattle.es_model.specs.declared.facts.LiteralFacts.{LiteralFacts}
-use Rattle.es_model.specs.declared.facts.SiteFacts.{SiteFacts}
-use Rattle.es_model.specs.declared.names.Binding.{Binding}
-use Rattle.es_model.specs.declared.names.Binding.TheVariants as binding
-use Rattle.es_model.specs.declared.names.Named.{Named}
-use Rattle.es_model.specs.declared.node.Node.{Node}
-use Rattle.es_model.specs.declared.node.Node.TheVariants as node
-use Rattle.es_model.specs.declared.numbers.FunctionNo.{FunctionNo}
-use Rattle.es_model.specs.declared.numbers.NodeId.{NodeId}
-use Rattle.es_model.specs.declared.numbers.SiteId.{SiteId}
-use Rattle.es_model.specs.declared.place.Place.{Place}
-use Rattle.es_model.specs.declared.primaries.Key.TheVariants as key
-use Rattle.es_model.specs.declared.primaries.Primary.{Primary}
-use Rattle.es_model.specs.declared.primaries.Primary.TheVariants as primary
-use Rattle.es_model.specs.declared.primaries.Property.{Property}
-use Rattle.es_model.specs.declared.primaries.Property.TheVariants as property
-use Rattle.es_model.specs.declared.statements.Statement.{Statement}
-use Rattle.es_model.specs.declared.statements.Statement.TheVariants as statement
-use Rattle.es_model.specs.Tree.{Tree as Checked, tree_of}
+use Rattle.es_tree.specs.declared.body.Body.{Body}
+use Rattle.es_tree.specs.declared.expressions.AssignOperator.{AssignOperator}
+use Rattle.es_tree.specs.declared.expressions.AssignOperator.TheVariants as assign
+use Rattle.es_tree.specs.declared.expressions.Access.{Access}
+use Rattle.es_tree.specs.declared.expressions.Access.TheVariants as access
+use Rattle.es_tree.specs.declared.expressions.Operator.{Operator}
+use Rattle.es_tree.specs.declared.expressions.Operator.TheVariants as operator
+use Rattle.es_tree.specs.declared.expressions.UnaryOperator.{UnaryOperator}
+use Rattle.es_tree.specs.declared.facts.FunctionFacts.{FunctionFacts}
+use Rattle.es_tree.specs.declared.facts.LiteralFacts.{LiteralFacts}
+use Rattle.es_tree.specs.declared.facts.SiteFacts.{SiteFacts}
+use Rattle.es_tree.specs.declared.names.Binding.{Binding}
+use Rattle.es_tree.specs.declared.names.Binding.TheVariants as binding
+use Rattle.es_tree.specs.declared.names.Named.{Named}
+use Rattle.es_tree.specs.declared.node.Node.{Node}
+use Rattle.es_tree.specs.declared.node.Node.TheVariants as node
+use Rattle.es_tree.specs.declared.numbers.FunctionNo.{FunctionNo}
+use Rattle.es_tree.specs.declared.numbers.NodeId.{NodeId}
+use Rattle.es_tree.specs.declared.numbers.SiteId.{SiteId}
+use Rattle.es_source.specs.declared.place.Place.{Place}
+use Rattle.es_tree.specs.declared.primaries.Key.TheVariants as key
+use Rattle.es_tree.specs.declared.primaries.Primary.{Primary}
+use Rattle.es_tree.specs.declared.primaries.Primary.TheVariants as primary
+use Rattle.es_tree.specs.declared.primaries.Property.{Property}
+use Rattle.es_tree.specs.declared.primaries.Property.TheVariants as property
+use Rattle.es_tree.specs.declared.statements.Statement.{Statement}
+use Rattle.es_tree.specs.declared.statements.Statement.TheVariants as statement
+use Rattle.es_tree.specs.Tree.{Tree as Checked, tree_of}
 use Rattle.script_grammar.specs.declared.leaf.Leaf.{Leaf}
 use Rattle.script_grammar.specs.declared.leaf.LeafKind.{LeafKind}
 use Rattle.script_grammar.specs.declared.leaf.LeafKind.TheVariants as leaf

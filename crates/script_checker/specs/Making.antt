@@ -1,7 +1,7 @@
 -- What the calls promise that make the tree of a script. Want of memory is free.
 use Rattle.std.specs.Prelude.{◌≡◌, ◌<◌, ◌^◌, true, false, length, Result, Ok, Err, Option}
-use Rattle.es_model.specs.declared.numbers.SiteId.{SiteId}
-use Rattle.es_model.specs.declared.place.Place.{Place}
+use Rattle.es_tree.specs.declared.numbers.SiteId.{SiteId}
+use Rattle.es_source.specs.declared.place.Place.{Place}
 use Rattle.script_rules.specs.declared.role.Role.{Role}
 use Rattle.script_checker.specs.declared.values.Value.{Value}
 use Rattle.script_checker.specs.Made.{Made, Part, part, add_site_where, is_read, is_written, site_where}

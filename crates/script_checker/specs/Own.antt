@@ -1,8 +1,8 @@
 -- What is said of a function's own code: all of its body outside of the functions in it. A computed key of a method is own code of the function around.
 use Rattle.std.specs.Prelude.{ℕ, Bool, true, false, ◌||◌, List, [], ◌∷◌, ◌++◌, length, bytes_eq, Option, Some, None, slice_get, if◌then◌else◌}
 use Rattle.property_keys.specs.Texts.{interned}
-use Rattle.es_model.specs.declared.expressions.AssignOperator.{AssignOperator}
-use Rattle.es_model.specs.declared.expressions.AssignOperator.TheVariants as assign
+use Rattle.es_tree.specs.declared.expressions.AssignOperator.{AssignOperator}
+use Rattle.es_tree.specs.declared.expressions.AssignOperator.TheVariants as assign
 use Rattle.script_grammar.specs.declared.leaf.Leaf.{Leaf}
 use Rattle.script_grammar.specs.declared.leaf.LeafKind.{LeafKind}
 use Rattle.script_grammar.specs.declared.leaf.LeafKind.TheVariants as leaf

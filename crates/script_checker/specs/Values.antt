@@ -1,19 +1,19 @@
 -- What the parts of a script become in its tree: a part of the kind that its place in the grammar gives, and lists of such parts.
 use Rattle.std.specs.Prelude.{ℕ, Bool, not, List, [], ◌∷◌, bytes_eq, Option, Some, None}
 use Rattle.std.specs.List.{list_any}
-use Rattle.es_model.specs.declared.body.DeclaredFunction.{DeclaredFunction}
-use Rattle.es_model.specs.declared.numbers.FunctionNo.{FunctionNo}
-use Rattle.es_model.specs.declared.numbers.NodeId.{NodeId}
-use Rattle.es_model.specs.declared.names.Named.{Named}
-use Rattle.es_model.specs.declared.names.Target.{Target}
-use Rattle.es_model.specs.declared.names.Target.TheVariants as target
-use Rattle.es_model.specs.declared.names.Binding.TheVariants as binding
-use Rattle.es_model.specs.declared.statements.Block.{Block}
-use Rattle.es_model.specs.declared.statements.Catch.{Catch}
-use Rattle.es_model.specs.declared.statements.Declared.{Declared}
-use Rattle.es_model.specs.declared.primaries.Key.{Key}
-use Rattle.es_model.specs.declared.primaries.Key.TheVariants as key
-use Rattle.es_model.specs.declared.primaries.Property.{Property}
+use Rattle.es_tree.specs.declared.body.DeclaredFunction.{DeclaredFunction}
+use Rattle.es_tree.specs.declared.numbers.FunctionNo.{FunctionNo}
+use Rattle.es_tree.specs.declared.numbers.NodeId.{NodeId}
+use Rattle.es_tree.specs.declared.names.Named.{Named}
+use Rattle.es_tree.specs.declared.names.Target.{Target}
+use Rattle.es_tree.specs.declared.names.Target.TheVariants as target
+use Rattle.es_tree.specs.declared.names.Binding.TheVariants as binding
+use Rattle.es_tree.specs.declared.statements.Block.{Block}
+use Rattle.es_tree.specs.declared.statements.Catch.{Catch}
+use Rattle.es_tree.specs.declared.statements.Declared.{Declared}
+use Rattle.es_tree.specs.declared.primaries.Key.{Key}
+use Rattle.es_tree.specs.declared.primaries.Key.TheVariants as key
+use Rattle.es_tree.specs.declared.primaries.Property.{Property}
 use Rattle.script_checker.specs.declared.values.Item.{Item}
 use Rattle.script_checker.specs.declared.values.Item.TheVariants as item
 use Rattle.script_checker.specs.declared.values.Value.{Value}

@@ -1,9 +1,9 @@
 //! Labels without parts.
 
 ghost use Rattle.std.specs.Prelude.{◌≡◌, IfOk};
-ghost use Rattle.es_model.specs.declared.primaries.Key.TheVariants as key;
-ghost use Rattle.es_model.specs.declared.primaries.Primary.TheVariants as primary;
-ghost use Rattle.es_model.specs.declared.primaries.Property.TheVariants as property;
+ghost use Rattle.es_tree.specs.declared.primaries.Key.TheVariants as key;
+ghost use Rattle.es_tree.specs.declared.primaries.Primary.TheVariants as primary;
+ghost use Rattle.es_tree.specs.declared.primaries.Property.TheVariants as property;
 ghost use Rattle.script_grammar.specs.Tree.{first_token};
 ghost use Rattle.script_grammar.specs.Tree.{Tree as t};
 ghost use Rattle.script_rules.specs.Chains.{chain_at};
@@ -17,7 +17,8 @@ ghost use Rattle.script_checker.specs.declared.values.Value.TheVariants as value
 
 use crate::tokens::{key_at, named, number_at};
 use crate::{Item, Maker, Setting, Value};
-use es_model::{Declared, Key, Place, Primary, Property, Statement};
+use es_source::Place;
+use es_tree::{Declared, Key, Primary, Property, Statement};
 use property_keys::NoMemory;
 use script_grammar::{Atom, Script};
 use script_rules::{Role, Scopes, own_units_at};

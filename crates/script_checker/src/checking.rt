@@ -12,11 +12,11 @@ use crate::lists::nodes_in;
 use crate::own::is_strict;
 use crate::parts::parts_of;
 use crate::{Machine, Setting, Task};
-use es_model::{Body, Checked};
+use es_source::ReadStop;
+use es_tree::{Body, Checked};
 use property_keys::NoMemory;
 use script_grammar::Script;
 use script_rules::{Role, declared_in, script_scope, static_fault};
-use script_syntax::ReadStop;
 use std::alloc::Global;
 
 /// The tree of a script: its items, its nodes with their places, its functions, literals and sites, and what its names are bound to.

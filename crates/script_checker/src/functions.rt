@@ -13,8 +13,9 @@ use crate::lists::nodes_in;
 use crate::own::own_facts;
 use crate::tokens::{copied, named};
 use crate::{Item, ItemList, Maker, Setting, Spot, Stack, TextSet, Value};
-use es_model::{
-    Body, DeclaredFunction, FunctionFacts, FunctionNo, Items, Named, Node, NodeId, Place, Primary,
+use es_source::Place;
+use es_tree::{
+    Body, DeclaredFunction, FunctionFacts, FunctionNo, Items, Named, Node, NodeId, Primary,
 };
 use property_keys::{NoMemory, Units};
 use script_grammar::Script;
@@ -22,7 +23,7 @@ use script_rules::{Scopes, own_units_at};
 use std::alloc::Global;
 
 /// What is written of a function before its body: its first token, its name, how many parameters it has, and whether it can construct.
-#[derive(Clone, Copy, Debug, PartialEq, Eq)]
+#[derive(Clone, Copy)]
 pub struct Header {
     pub place: Place,
     pub name: Option<u32>,

@@ -5,7 +5,7 @@ ghost use Rattle.script_checker.specs.Values.{binds_in, elements_in, nodes_in, p
 
 use crate::parts::optional_node;
 use crate::{Item, ItemList};
-use es_model::{Declared, Items, NodeId, Property};
+use es_tree::{Declared, Items, NodeId, Property};
 use property_keys::NoMemory;
 use std::alloc::Global;
 

@@ -1,7 +1,7 @@
 //! The machine that makes the tree of a script: a stack of tasks, and a stack of what the parts became that are not yet in another part.
 
 ghost use Rattle.std.specs.Prelude.{◌≡◌, [], IfOk, OnOk};
-ghost use Rattle.es_model.specs.Tree.{IsTree};
+ghost use Rattle.es_tree.specs.Tree.{IsTree};
 ghost use Rattle.script_grammar.specs.Tree.{Tree as t};
 ghost use Rattle.script_rules.specs.Arena.{IsPair, IsPart, IsQuad, IsTriple, IsWrap, tree_at};
 ghost use Rattle.script_checker.specs.Driving.{AreTasks, Does, IsTask, end_of, tree_from};
@@ -22,7 +22,7 @@ use crate::tokens::place_of;
 use crate::triples::{ForValues, ThreeValues, for_first, for_made, triple_first, triple_made};
 use crate::wraps::{wrap_first, wrap_made};
 use crate::{Entry, Item, Maker, Setting, Spot, Stack, Task, Value};
-use es_model::{Body, Checked};
+use es_tree::{Body, Checked};
 use property_keys::NoMemory;
 use script_grammar::{Atom, Node, Pair, Quad, Script, Triple, Wrap};
 use script_rules::{Scopes, part};
@@ -38,7 +38,7 @@ pub struct Machine {
 }
 
 /// The numbers of the parts of a `for`.
-#[derive(Clone, Copy, Debug, PartialEq, Eq)]
+#[derive(Clone, Copy)]
 struct ForParts {
     first: u32,
     test: u32,

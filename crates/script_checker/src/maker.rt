@@ -1,12 +1,13 @@
 ghost use Rattle.std.specs.Prelude.{◌≡◌, ◌<◌, ◌+◌, ◌^◌, length, IfOk, OnOk};
-ghost use Rattle.es_model.specs.Tree.{IsTree};
+ghost use Rattle.es_tree.specs.Tree.{IsTree};
 ghost use Rattle.script_checker.specs.Made.{add_function, add_literal, add_node, next_node, add_site_where, is_read, is_written, made_of, next_function, nothing_made, script_tree, site_where, with_access, with_node, with_operator, with_primary, with_statement};
 ghost use Rattle.script_checker.specs.Making.{Adds, HasRoom, HasSites, Makes};
 
 use crate::{Item, Value};
-use es_model::{
+use es_source::Place;
+use es_tree::{
     Access, Body, Checked, FunctionFacts, FunctionNo, LiteralFacts, LiteralNo, Node, NodeId,
-    Operator, Place, Primary, SiteFacts, SiteId, Statement,
+    Operator, Primary, SiteFacts, SiteId, Statement,
 };
 use property_keys::NoMemory;
 use script_rules::Role;

@@ -9,14 +9,14 @@ ghost use Rattle.script_checker.specs.OwnWalk.{AddsOwn, InParentheses, assigned_
 
 use crate::tokens::{is_spelled, text_units};
 use crate::{Stack, TextSet};
-use es_model::AssignOperator;
+use es_tree::AssignOperator;
 use property_keys::{NoMemory, Units};
 use script_grammar::{Atom, LeafKind, Node, Pair, Script, Triple, Wrap};
 use script_rules::{leaf_at, members, own_units_at, part};
 use std::alloc::Global;
 
 /// At how many names a function's own code assigns to `this.N`, and whether it uses the name `arguments`.
-#[derive(Clone, Copy, Debug, PartialEq, Eq)]
+#[derive(Clone, Copy)]
 pub struct OwnFacts {
     pub this_names: u32,
     pub arguments: bool,

@@ -1,10 +1,10 @@
 //! Labels with two parts, after them.
 
 ghost use Rattle.std.specs.Prelude.{◌≡◌, ◌++◌, ◌∷◌, [], length, IfOk};
-ghost use Rattle.es_model.specs.declared.expressions.Access.TheVariants as access;
-ghost use Rattle.es_model.specs.declared.expressions.Operator.TheVariants as operation;
-ghost use Rattle.es_model.specs.declared.primaries.Property.TheVariants as property;
-ghost use Rattle.es_model.specs.declared.statements.Statement.TheVariants as statement;
+ghost use Rattle.es_tree.specs.declared.expressions.Access.TheVariants as access;
+ghost use Rattle.es_tree.specs.declared.expressions.Operator.TheVariants as operation;
+ghost use Rattle.es_tree.specs.declared.primaries.Property.TheVariants as property;
+ghost use Rattle.es_tree.specs.declared.statements.Statement.TheVariants as statement;
 ghost use Rattle.script_rules.specs.Arena.{IsPart, tree_at};
 ghost use Rattle.script_checker.specs.Firsts.{pair_first};
 ghost use Rattle.script_checker.specs.Made.{Made, accessed, comma_made, declaration_made, expression_made, is_front, method_made, one, pair_made, place_of, property_of, sets_prototype, with_access, with_one, with_operator, with_statement, with_two};
@@ -20,8 +20,9 @@ use crate::lists::nodes_in;
 use crate::parts::{front_of, item_of, key_of, node_of, parts_of, target_of};
 use crate::tokens::{is_spelled, place_of, text_units};
 use crate::{Item, Maker, Spot, Value};
-use es_model::{
-    Access, AssignOperator, BinaryOperator, Operator, Place, Property, ShortOperator, Statement,
+use es_source::Place;
+use es_tree::{
+    Access, AssignOperator, BinaryOperator, Operator, Property, ShortOperator, Statement,
 };
 use property_keys::NoMemory;
 use script_grammar::{Atom, Node, Pair, Script};

@@ -4,7 +4,7 @@ ghost use Rattle.std.specs.Prelude.{◌≡◌, ◌++◌, ◌∷◌, [], IfOk};
 ghost use Rattle.script_checker.specs.Values.{block_of, front_of, item_of, key_of, node_of, optional_block, optional_catch, optional_node, parts_of, target_of};
 
 use crate::{Item, ItemList, Value};
-use es_model::{Binding, Block, Catch, Items, Key, Named, NodeId, Target};
+use es_tree::{Binding, Block, Catch, Items, Key, Named, NodeId, Target};
 use property_keys::{NoMemory, Units};
 use std::alloc::Global;
 

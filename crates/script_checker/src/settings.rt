@@ -13,7 +13,7 @@ ghost use Rattle.script_checker.specs.Spots.{IsKnown};
 
 use crate::Setting;
 use crate::own::is_strict;
-use es_model::{AssignOperator, UnaryOperator};
+use es_tree::{AssignOperator, UnaryOperator};
 use property_keys::NoMemory;
 use script_grammar::{Pair, Script, Triple, Wrap};
 use script_rules::{

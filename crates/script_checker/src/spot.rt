@@ -1,8 +1,8 @@
 use crate::Setting;
-use es_model::Place;
+use es_source::Place;
 
 /// A part whose parts are done: what stands around it and around its parts, the place of its first token, and the numbers of its first and its last part.
-#[derive(Clone, Copy, Debug, PartialEq, Eq)]
+#[derive(Clone, Copy)]
 pub struct Spot {
     pub around: Setting,
     pub inner: Setting,

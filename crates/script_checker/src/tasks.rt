@@ -2,7 +2,7 @@ use crate::Value;
 use script_rules::{Role, ScopeId};
 
 /// What stands around a part: its innermost scope, whether its code is strict, and what it is to the part around it.
-#[derive(Clone, Copy, Debug, PartialEq, Eq)]
+#[derive(Clone, Copy)]
 pub struct Setting {
     pub scope: ScopeId,
     pub strict: bool,
@@ -10,7 +10,7 @@ pub struct Setting {
 }
 
 /// What is done next, to the node with a number.
-#[derive(Clone, Copy, Debug, PartialEq, Eq)]
+#[derive(Clone, Copy)]
 pub enum Task {
     Visit(u32, Setting),
     /// The parts of the node are done. The second setting is that around its parts.

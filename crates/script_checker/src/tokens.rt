@@ -6,7 +6,8 @@ ghost use Rattle.script_rules.specs.Chains.{chain_at};
 ghost use Rattle.script_rules.specs.Names.{units_at};
 ghost use Rattle.script_checker.specs.Made.{binding_in, key_at, named, number_at, place_of};
 
-use es_model::{Binding, Named, Place};
+use es_source::Place;
+use es_tree::{Binding, Named};
 use property_keys::{NoMemory, Units};
 use script_grammar::{LeafKind, Script};
 use script_rules::{Resolved, ScopeId, Scopes, leaf_at, own_units_at, units_at};

@@ -1,9 +1,9 @@
 //! Labels with three or four parts, after them.
 
 ghost use Rattle.std.specs.Prelude.{◌≡◌, length};
-ghost use Rattle.es_model.specs.declared.expressions.Operator.TheVariants as operation;
-ghost use Rattle.es_model.specs.declared.primaries.Property.TheVariants as property;
-ghost use Rattle.es_model.specs.declared.statements.Statement.TheVariants as statement;
+ghost use Rattle.es_tree.specs.declared.expressions.Operator.TheVariants as operation;
+ghost use Rattle.es_tree.specs.declared.primaries.Property.TheVariants as property;
+ghost use Rattle.es_tree.specs.declared.statements.Statement.TheVariants as statement;
 ghost use Rattle.script_rules.specs.Arena.{tree_at};
 ghost use Rattle.script_checker.specs.Firsts.{for_first, triple_first};
 ghost use Rattle.script_checker.specs.Made.{for_made, method_made, triple_made, with_operator, with_statement, with_three, with_two};
@@ -15,7 +15,8 @@ ghost use Rattle.script_checker.specs.Values.{block_of, item_of, key_of, node_of
 use crate::functions::method_node;
 use crate::parts::{block_of, item_of, key_of, node_of, optional_block, optional_catch, parts_of};
 use crate::{Item, Maker, Setting, Spot, Value};
-use es_model::{Operator, Place, Property, Statement};
+use es_source::Place;
+use es_tree::{Operator, Property, Statement};
 use property_keys::NoMemory;
 use script_grammar::{Quad, Script, Triple};
 use script_rules::Scopes;

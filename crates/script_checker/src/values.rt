@@ -1,5 +1,5 @@
 use crate::ItemList;
-use es_model::{Block, Catch, Declared, FunctionNo, Key, Named, NodeId, Property};
+use es_tree::{Block, Catch, Declared, FunctionNo, Key, Named, NodeId, Property};
 
 /// What one part of a script becomes in its tree.
 #[derive(Drop)]

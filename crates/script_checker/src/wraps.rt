@@ -1,11 +1,11 @@
 //! Labels with one part, after it.
 
 ghost use Rattle.std.specs.Prelude.{◌≡◌};
-ghost use Rattle.es_model.specs.declared.expressions.Access.TheVariants as access;
-ghost use Rattle.es_model.specs.declared.expressions.Operator.TheVariants as operation;
-ghost use Rattle.es_model.specs.declared.primaries.Key.TheVariants as key;
-ghost use Rattle.es_model.specs.declared.primaries.Primary.TheVariants as primary;
-ghost use Rattle.es_model.specs.declared.statements.Statement.TheVariants as statement;
+ghost use Rattle.es_tree.specs.declared.expressions.Access.TheVariants as access;
+ghost use Rattle.es_tree.specs.declared.expressions.Operator.TheVariants as operation;
+ghost use Rattle.es_tree.specs.declared.primaries.Key.TheVariants as key;
+ghost use Rattle.es_tree.specs.declared.primaries.Primary.TheVariants as primary;
+ghost use Rattle.es_tree.specs.declared.statements.Statement.TheVariants as statement;
 ghost use Rattle.script_rules.specs.Chains.{chain_at, names_in};
 ghost use Rattle.script_rules.specs.Names.{units_at};
 ghost use Rattle.script_checker.specs.Firsts.{wrap_first};
@@ -21,9 +21,8 @@ use crate::lists::{binds_in, elements_in, nodes_in, properties_in};
 use crate::parts::{block_of, item_of, node_of, parts_of, target_of};
 use crate::tokens::{named, place_of};
 use crate::{Item, ItemList, Maker, Spot, Value};
-use es_model::{
-    Access, Block, Catch, Declared, Key, Operator, Place, Primary, Statement, UnaryOperator,
-};
+use es_source::Place;
+use es_tree::{Access, Block, Catch, Declared, Key, Operator, Primary, Statement, UnaryOperator};
 use property_keys::NoMemory;
 use script_grammar::{Script, Wrap};
 use script_rules::{Role, Scopes, own_units_at};

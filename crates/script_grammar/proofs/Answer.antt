@@ -2,7 +2,7 @@
 use Rattle.std.proofs.Common.{suc, ◌≡◌, ◌≤◌, ◌<◌, ℕ, List, [], ◌∷◌, ◌++◌, refl, subst, ap, sym, arith}
 use Rattle.script_grammar.specs.declared.sign.Sign.{Sign}
 use Rattle.script_grammar.specs.declared.sign.Sign.TheVariants.{Token as of, Inserted as put}
-use Rattle.es_model.specs.declared.token.Token.{Token}
+use Rattle.es_source.specs.declared.token.Token.{Token}
 use Rattle.script_grammar.specs.Kinds.{kind_of}
 use Rattle.script_grammar.specs.Grammar.{Read, read, Plain}
 use Rattle.script_grammar.specs.Completed.{Answer, Script, Reads}

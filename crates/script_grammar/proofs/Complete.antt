@@ -1,10 +1,10 @@
 -- What the grammar has, the machine reads: first what a stack refuses, and how its first token is taken.
 use Rattle.std.proofs.Common.{suc, ◌≡◌, ◌≤◌, ◌<◌, ℕ, ◌==◌, ◌&&◌, ◌||◌, not, Bool, true, false, cond, Option, Some, None, List, [], ◌∷◌, refl, subst, ap, sym, ◌∙◌, arith, ◌⊎◌, inl, inr}
 use Rattle.std.proofs.lemmas.Bool.{eqb-true, ne_eqb, eq-eqb}
-use Rattle.es_model.specs.declared.expressions.AssignOperator.TheVariants as assign_by
-use Rattle.es_model.specs.declared.expressions.BinaryOperator.TheVariants as bi
-use Rattle.es_model.specs.declared.expressions.ShortOperator.TheVariants as sh
-use Rattle.es_model.specs.declared.expressions.UnaryOperator.{UnaryOperator}
+use Rattle.es_tree.specs.declared.expressions.AssignOperator.TheVariants as assign_by
+use Rattle.es_tree.specs.declared.expressions.BinaryOperator.TheVariants as bi
+use Rattle.es_tree.specs.declared.expressions.ShortOperator.TheVariants as sh
+use Rattle.es_tree.specs.declared.expressions.UnaryOperator.{UnaryOperator}
 use Rattle.script_grammar.specs.declared.sign.Sign.{Sign}
 use Rattle.script_grammar.specs.declared.sign.Sign.TheVariants.{Token as of, Inserted as put}
 use Rattle.script_grammar.specs.declared.kinds.NameRole.{NameRole}

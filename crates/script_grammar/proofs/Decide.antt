@@ -1,10 +1,10 @@
 -- The answer of tokens, computed by the machine.
 use Rattle.std.proofs.Common.{suc, zero, ◌≡◌, ◌≤◌, ◌<◌, ℕ, Bool, true, false, cond, Option, Some, None, Result, Ok, Err, List, [], ◌∷◌, ◌++◌, refl, subst, arith, nat_le}
 use Rattle.std.proofs.lemmas.Bool.Decides.{nat_tests}
-use Rattle.es_model.specs.declared.token.Token.{Token}
-use Rattle.es_model.specs.declared.faults.FaultCode.{FaultCode}
-use Rattle.es_model.specs.declared.faults.SourceFault.{SourceFault}
-use Rattle.es_model.specs.Reading.{Reading, reading_of_characters, fault_at}
+use Rattle.es_source.specs.declared.token.Token.{Token}
+use Rattle.es_source.specs.declared.faults.FaultCode.{FaultCode}
+use Rattle.es_source.specs.declared.faults.SourceFault.{SourceFault}
+use Rattle.es_source.specs.Reading.{Reading, reading_of_characters, fault_at}
 use Rattle.script_grammar.specs.declared.symbol.Symbol.{Symbol}
 use Rattle.script_grammar.specs.declared.sign.Sign.TheVariants.{Token as of, Inserted as put}
 use Rattle.script_grammar.specs.Kinds.{kind_of}

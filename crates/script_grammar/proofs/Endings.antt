@@ -1,6 +1,6 @@
 -- Whatever the machine expects can be given, so what it has read begins some script; and where it ends, the grammar has the script.
 use Rattle.std.proofs.Common.{suc, ◌≡◌, ℕ, Bool, true, false, cond, Option, Some, None, List, [], ◌∷◌, refl, subst}
-use Rattle.es_model.specs.declared.expressions.AssignOperator.TheVariants as assign_by
+use Rattle.es_tree.specs.declared.expressions.AssignOperator.TheVariants as assign_by
 use Rattle.script_grammar.specs.declared.sign.Sign.{Sign}
 use Rattle.script_grammar.specs.declared.sign.Sign.TheVariants.{Token as of}
 use Rattle.script_grammar.specs.declared.kinds.NameRole.TheVariants as role

@@ -1,7 +1,7 @@
 -- The grammar's first fault is one, and there is none exactly where the tokens derive a tree.
 use Rattle.std.proofs.Common.{◌≡◌, Option, None, [], refl, ap, sym, ◌∙◌}
-use Rattle.es_model.specs.declared.faults.SourceFault.{SourceFault}
-use Rattle.es_model.specs.Reading.{Reading}
+use Rattle.es_source.specs.declared.faults.SourceFault.{SourceFault}
+use Rattle.es_source.specs.Reading.{Reading}
 use Rattle.script_grammar.specs.Tree.{Tree}
 use Rattle.script_grammar.specs.Completed.{Answer, Script, Unexpected, TooDeep, Reads, Derives, HasGrammarFault, fault_of}
 use Rattle.script_grammar.proofs.Answer.{one_answer}

@@ -1,6 +1,6 @@
 -- The first token of each node is the one that its tree names.
 use Rattle.std.proofs.Common.{◌≡◌, ℕ, Bool, true, false, Option, Some, None, List, refl, ap, sym, ◌∙◌}
-use Rattle.es_model.specs.declared.expressions.ShortOperator.TheVariants as sh
+use Rattle.es_tree.specs.declared.expressions.ShortOperator.TheVariants as sh
 use Rattle.script_grammar.specs.declared.kinds.Kind.{Kind}
 use Rattle.script_grammar.specs.declared.kinds.Kind.TheVariants as k
 use Rattle.script_grammar.specs.declared.kinds.Level.{Level}

@@ -1,7 +1,7 @@
 -- Each list of tokens has an answer.
 use Rattle.std.proofs.Common.{suc, zero, ◌≡◌, ◌<◌, ◌≤◌, ℕ, Bool, true, false, Option, Some, None, List, [], ◌∷◌, ◌++◌, length, refl, arith, ◌⊎◌, inl, inr}
 use Rattle.script_grammar.specs.declared.symbol.Symbol.{Symbol}
-use Rattle.es_model.specs.declared.token.Token.{Token}
+use Rattle.es_source.specs.declared.token.Token.{Token}
 use Rattle.script_grammar.specs.declared.sign.Sign.TheVariants.{Token as of, Inserted as put}
 use Rattle.script_grammar.specs.Kinds.{kind_of}
 use Rattle.script_grammar.specs.Tree.{Tree}

@@ -1,10 +1,10 @@
 -- Semicolons are put in from left to right, and the first fault of the grammar (ECMA-262, 12.10).
 use Rattle.std.specs.Prelude.{suc, ◌≡◌, ℕ, ◌<◌, ◌≤◌, Bool, true, false, List, [], ◌∷◌, ◌++◌, ◌||◌, Option, Some, None, slice_get}
-use Rattle.es_model.specs.declared.token.Token.{Token}
-use Rattle.es_model.specs.declared.faults.FaultCode.TheVariants as code
-use Rattle.es_model.specs.declared.faults.SourceFault.{SourceFault}
-use Rattle.es_model.specs.declared.place.Place.{Place}
-use Rattle.es_model.specs.Reading.{Reading, fault_at}
+use Rattle.es_source.specs.declared.token.Token.{Token}
+use Rattle.es_source.specs.declared.faults.FaultCode.TheVariants as code
+use Rattle.es_source.specs.declared.faults.SourceFault.{SourceFault}
+use Rattle.es_source.specs.declared.place.Place.{Place}
+use Rattle.es_source.specs.Reading.{Reading, fault_at}
 use Rattle.script_grammar.specs.declared.sign.Sign.TheVariants.{Token as of, Inserted as put}
 use Rattle.script_grammar.specs.declared.kinds.Bracket.TheVariants as b
 use Rattle.script_grammar.specs.declared.kinds.Kind.{Kind}

@@ -1,9 +1,9 @@
 -- The productions, one rule each, in the order of the grammar. Above each rule stands its production.
 use Rattle.std.specs.Prelude.{suc, ◌≡◌, ◌&&◌, ℕ, Bool, true, false, Some, List, [], ◌∷◌, ◌++◌}
-use Rattle.es_model.specs.declared.expressions.AssignOperator.{AssignOperator}
-use Rattle.es_model.specs.declared.expressions.AssignOperator.TheVariants as assign_by
-use Rattle.es_model.specs.declared.expressions.ShortOperator.TheVariants as s
-use Rattle.es_model.specs.declared.expressions.UnaryOperator.{UnaryOperator}
+use Rattle.es_tree.specs.declared.expressions.AssignOperator.{AssignOperator}
+use Rattle.es_tree.specs.declared.expressions.AssignOperator.TheVariants as assign_by
+use Rattle.es_tree.specs.declared.expressions.ShortOperator.TheVariants as s
+use Rattle.es_tree.specs.declared.expressions.UnaryOperator.{UnaryOperator}
 use Rattle.script_grammar.specs.declared.sign.Sign.{Sign}
 use Rattle.script_grammar.specs.declared.sign.Sign.TheVariants.{Token as of, Inserted as put}
 use Rattle.script_grammar.specs.declared.kinds.NameRole.{NameRole}

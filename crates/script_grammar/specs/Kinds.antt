@@ -1,13 +1,13 @@
 -- What each token is to the grammar.
 use Rattle.std.specs.Prelude.{ℕ, Bool, true, false, List, [], ◌∷◌, codes, bytes_eq, Option, Some, None, unwrap_or, if◌then◌else◌}
-use Rattle.es_model.specs.declared.token.TokenKind.{TokenKind}
-use Rattle.es_model.specs.declared.token.TokenKind.TheVariants as token
-use Rattle.es_model.specs.declared.expressions.AssignOperator.TheVariants as assign
-use Rattle.es_model.specs.declared.expressions.BinaryOperator.{BinaryOperator}
-use Rattle.es_model.specs.declared.expressions.BinaryOperator.TheVariants as binary
-use Rattle.es_model.specs.declared.expressions.ShortOperator.TheVariants as short
-use Rattle.es_model.specs.declared.expressions.UnaryOperator.{UnaryOperator}
-use Rattle.es_model.specs.declared.expressions.UnaryOperator.TheVariants as unary
+use Rattle.es_source.specs.declared.token.TokenKind.{TokenKind}
+use Rattle.es_source.specs.declared.token.TokenKind.TheVariants as token
+use Rattle.es_tree.specs.declared.expressions.AssignOperator.TheVariants as assign
+use Rattle.es_tree.specs.declared.expressions.BinaryOperator.{BinaryOperator}
+use Rattle.es_tree.specs.declared.expressions.BinaryOperator.TheVariants as binary
+use Rattle.es_tree.specs.declared.expressions.ShortOperator.TheVariants as short
+use Rattle.es_tree.specs.declared.expressions.UnaryOperator.{UnaryOperator}
+use Rattle.es_tree.specs.declared.expressions.UnaryOperator.TheVariants as unary
 use Rattle.script_grammar.specs.declared.kinds.NameRole.TheVariants as role
 use Rattle.script_grammar.specs.declared.kinds.Word.TheVariants as w
 use Rattle.script_grammar.specs.declared.kinds.Bracket.TheVariants as b

@@ -1,10 +1,10 @@
 -- A parser as a machine on a stack of what is still expected and a stack of values. It is no part of what the grammar says: the proofs of both
 -- directions go through it.
 use Rattle.std.specs.Prelude.{suc, ℕ, ◌==◌, ◌&&◌, ◌||◌, not, Bool, true, false, cond, List, [], ◌∷◌, Option, Some, None}
-use Rattle.es_model.specs.declared.expressions.AssignOperator.TheVariants as assign_by
-use Rattle.es_model.specs.declared.expressions.BinaryOperator.TheVariants as binary
-use Rattle.es_model.specs.declared.expressions.ShortOperator.TheVariants as s
-use Rattle.es_model.specs.declared.expressions.UnaryOperator.{UnaryOperator}
+use Rattle.es_tree.specs.declared.expressions.AssignOperator.TheVariants as assign_by
+use Rattle.es_tree.specs.declared.expressions.BinaryOperator.TheVariants as binary
+use Rattle.es_tree.specs.declared.expressions.ShortOperator.TheVariants as s
+use Rattle.es_tree.specs.declared.expressions.UnaryOperator.{UnaryOperator}
 use Rattle.script_grammar.specs.declared.sign.Sign.{Sign}
 use Rattle.script_grammar.specs.declared.sign.Sign.TheVariants.{Token as of, Inserted as put}
 use Rattle.script_grammar.specs.declared.kinds.NameRole.{NameRole}

@@ -1,8 +1,8 @@
 -- What small sources give, from their characters to a tree or a fault.
 use Rattle.std.specs.Prelude.{◌≡◌, ℕ, zero, suc, false, List, [], ◌∷◌, ◌++◌, replicate, Ok, Some}
-use Rattle.es_model.specs.declared.expressions.BinaryOperator.TheVariants as binary
-use Rattle.es_model.specs.Reading.{Reading, reading_of_characters, fault_at}
-use Rattle.es_model.specs.declared.faults.FaultCode.{FaultCode}
+use Rattle.es_tree.specs.declared.expressions.BinaryOperator.TheVariants as binary
+use Rattle.es_source.specs.Reading.{Reading, reading_of_characters, fault_at}
+use Rattle.es_source.specs.declared.faults.FaultCode.{FaultCode}
 use Rattle.script_grammar.specs.declared.labels.Atom.TheVariants as atom
 use Rattle.script_grammar.specs.declared.labels.Wrap.TheVariants as wrap
 use Rattle.script_grammar.specs.declared.labels.Pair.TheVariants as pair

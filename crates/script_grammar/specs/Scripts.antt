@@ -1,8 +1,8 @@
 -- The script that the code has, and the tree that it stands for.
 use Rattle.std.specs.Prelude.{◌≡◌, ◌<◌, ℕ, List, Some, slice_get}
-use Rattle.es_model.specs.declared.token.Token.{Token}
-use Rattle.es_model.specs.declared.token.TokenKind.{TokenKind}
-use Rattle.es_model.specs.declared.token.TokenKind.TheVariants as token
+use Rattle.es_source.specs.declared.token.Token.{Token}
+use Rattle.es_source.specs.declared.token.TokenKind.{TokenKind}
+use Rattle.es_source.specs.declared.token.TokenKind.TheVariants as token
 use Rattle.script_grammar.specs.declared.node.Node.{Node}
 use Rattle.script_grammar.specs.declared.node.Node.TheVariants as node
 use Rattle.script_grammar.specs.declared.leaf.Leaf.{Leaf}

@@ -1,6 +1,6 @@
 -- The tree of a script. Its labels name tokens by their numbers. Parentheses have a label of their own, so that `(a)` is no target.
 use Rattle.std.specs.Prelude.{ℕ, Bool, true, false, not, Option, Some, None}
-use Rattle.es_model.specs.declared.expressions.ShortOperator.TheVariants as s
+use Rattle.es_tree.specs.declared.expressions.ShortOperator.TheVariants as s
 use Rattle.script_grammar.specs.declared.labels.Atom.{Atom as AtomLabel}
 use Rattle.script_grammar.specs.declared.labels.Atom.TheVariants as atom
 use Rattle.script_grammar.specs.declared.labels.Wrap.{Wrap as WrapLabel}

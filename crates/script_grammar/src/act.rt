@@ -1,7 +1,7 @@
 use crate::{Atom, Pair, Quad, Triple, Wrap};
 
 /// How a value is made, or how the newest values become one.
-#[derive(Clone, Copy, Debug, PartialEq, Eq)]
+#[derive(Clone, Copy)]
 pub enum Act {
     Atom(Atom),
     Wrap(Wrap),

@@ -2,11 +2,11 @@
 //! numbers in a tree are those of tokens, from 0.
 
 ghost use Rattle.std.specs.Prelude.{List, [], ◌∷◌, codes, true, false};
-ghost use Rattle.es_model.specs.declared.expressions.AssignOperator.TheVariants as assign;
-ghost use Rattle.es_model.specs.declared.expressions.BinaryOperator.TheVariants as binary;
-ghost use Rattle.es_model.specs.declared.expressions.ShortOperator.TheVariants as short;
-ghost use Rattle.es_model.specs.declared.expressions.UnaryOperator.TheVariants as unary;
-ghost use Rattle.es_model.specs.declared.faults.FaultCode.TheVariants as fault;
+ghost use Rattle.es_tree.specs.declared.expressions.AssignOperator.TheVariants as assign;
+ghost use Rattle.es_tree.specs.declared.expressions.BinaryOperator.TheVariants as binary;
+ghost use Rattle.es_tree.specs.declared.expressions.ShortOperator.TheVariants as short;
+ghost use Rattle.es_tree.specs.declared.expressions.UnaryOperator.TheVariants as unary;
+ghost use Rattle.es_source.specs.declared.faults.FaultCode.TheVariants as fault;
 ghost use Rattle.script_grammar.specs.declared.labels.Atom.TheVariants as atom;
 ghost use Rattle.script_grammar.specs.declared.labels.Wrap.TheVariants as wrap;
 ghost use Rattle.script_grammar.specs.declared.labels.Pair.TheVariants as pair;

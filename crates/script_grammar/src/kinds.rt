@@ -1,7 +1,7 @@
-use es_model::{AssignOperator, BinaryOperator, ShortOperator};
+use es_tree::{AssignOperator, BinaryOperator, ShortOperator};
 
 /// A word that is reserved and is no operator between two operands (ECMA-262, 12.7.2).
-#[derive(Clone, Copy, Debug, PartialEq, Eq)]
+#[derive(Clone, Copy)]
 pub enum Word {
     Break,
     Catch,
@@ -30,7 +30,7 @@ pub enum Word {
 }
 
 /// Whether a name may begin an accessor of an object literal (13.2.5).
-#[derive(Clone, Copy, Debug, PartialEq, Eq)]
+#[derive(Clone, Copy)]
 pub enum NameRole {
     Plain,
     Get,
@@ -38,7 +38,7 @@ pub enum NameRole {
 }
 
 /// `{`, `}`, `(`, `)`, `[` and `]`.
-#[derive(Clone, Copy, Debug, PartialEq, Eq)]
+#[derive(Clone, Copy)]
 pub enum Bracket {
     BraceOpen,
     BraceClose,
@@ -49,7 +49,7 @@ pub enum Bracket {
 }
 
 /// A punctuator that is no bracket and stands between no two operands (12.8).
-#[derive(Clone, Copy, Debug, PartialEq, Eq)]
+#[derive(Clone, Copy)]
 pub enum Mark {
     Dot,
     Semicolon,
@@ -64,7 +64,7 @@ pub enum Mark {
 }
 
 /// What a token is to the grammar.
-#[derive(Clone, Copy, Debug, PartialEq, Eq)]
+#[derive(Clone, Copy)]
 pub enum Kind {
     /// A word that is not reserved.
     Name(NameRole),
@@ -84,7 +84,7 @@ pub enum Kind {
 }
 
 /// The levels of operators that group from the left, by the names of their parts.
-#[derive(Clone, Copy, Debug, PartialEq, Eq)]
+#[derive(Clone, Copy)]
 pub enum Level {
     Or,
     And,

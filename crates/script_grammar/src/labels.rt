@@ -1,10 +1,10 @@
 //! The labels of a script's tree, by the number of parts. The numbers in them are those of tokens. A label whose first token is none of its
 //! parts' has the number of that token.
 
-use es_model::{AssignOperator, BinaryOperator, ShortOperator, UnaryOperator};
+use es_tree::{AssignOperator, BinaryOperator, ShortOperator, UnaryOperator};
 
 /// What has no parts of its own.
-#[derive(Clone, Copy, Debug, PartialEq, Eq)]
+#[derive(Clone, Copy, Debug)]
 pub enum Atom {
     /// An empty list, or a part that is left out.
     Nothing,
@@ -37,7 +37,7 @@ pub enum Atom {
 }
 
 /// What has one part.
-#[derive(Clone, Copy, Debug, PartialEq, Eq)]
+#[derive(Clone, Copy, Debug)]
 pub enum Wrap {
     /// An expression in parentheses, with the `(`.
     Parenthesis(u32),
@@ -82,7 +82,7 @@ pub enum Wrap {
 }
 
 /// What has two parts.
-#[derive(Clone, Copy, Debug, PartialEq, Eq)]
+#[derive(Clone, Copy, Debug)]
 pub enum Pair {
     /// A list and its last member.
     And,
@@ -116,7 +116,7 @@ pub enum Pair {
 }
 
 /// What has three parts.
-#[derive(Clone, Copy, Debug, PartialEq, Eq)]
+#[derive(Clone, Copy, Debug)]
 pub enum Triple {
     /// The test and both values.
     Conditional,
@@ -129,7 +129,7 @@ pub enum Triple {
 }
 
 /// What has four parts.
-#[derive(Clone, Copy, Debug, PartialEq, Eq)]
+#[derive(Clone, Copy, Debug)]
 pub enum Quad {
     /// The three parts of the head and the statement, with the `for`.
     For(u32),

@@ -1,9 +1,9 @@
 //! Laws of the grammar. Each function here only names a law.
 
 ghost use Rattle.std.specs.Prelude.{◌≡◌, ℕ, true, List, [], ◌∷◌, ◌++◌, Option, Some, None};
-ghost use Rattle.es_model.specs.Reading.{Reading};
-ghost use Rattle.es_model.specs.declared.faults.SourceFault.{SourceFault};
-ghost use Rattle.es_model.specs.declared.token.Token.{Token};
+ghost use Rattle.es_source.specs.Reading.{Reading};
+ghost use Rattle.es_source.specs.declared.faults.SourceFault.{SourceFault};
+ghost use Rattle.es_source.specs.declared.token.Token.{Token};
 ghost use Rattle.script_grammar.specs.declared.sign.Sign.{Sign};
 ghost use Rattle.script_grammar.specs.Tree.{Tree, first_token};
 ghost use Rattle.script_grammar.specs.Grammar.{Part, Read, read, Plain, Spells, Viable};

@@ -1,7 +1,7 @@
 use property_keys::Units;
 
 /// What a token of a script says.
-#[derive(Debug, PartialEq, Drop)]
+#[derive(Drop)]
 pub enum LeafKind {
     /// A name or a word.
     Name(Units),
@@ -12,7 +12,7 @@ pub enum LeafKind {
 }
 
 /// A token of a script, with the line and the column at which it begins, both from 1.
-#[derive(Debug, PartialEq, Drop)]
+#[derive(Drop)]
 pub struct Leaf {
     pub kind: LeafKind,
     pub line: u32,

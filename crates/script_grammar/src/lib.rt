@@ -11,8 +11,6 @@ mod node;
 mod script;
 mod sign;
 mod symbol;
-#[cfg(test)]
-mod tests;
 
 pub use act::Act;
 pub use kinds::{Bracket, Kind, Level, Mark, NameRole, Word};

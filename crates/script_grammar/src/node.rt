@@ -1,7 +1,7 @@
 use crate::{Atom, Pair, Quad, Triple, Wrap};
 
 /// A node of a script: its label and the numbers of its parts, each below its own.
-#[derive(Clone, Copy, Debug, PartialEq, Eq)]
+#[derive(Clone, Copy)]
 pub enum Node {
     Atom(Atom),
     Wrap(Wrap, u32),

@@ -1,7 +1,7 @@
 use crate::Kind;
 
 /// What is read next: a token of the file, with its number from 0 and whether a line break stands before it, or a semicolon that is put in.
-#[derive(Clone, Copy, Debug, PartialEq, Eq)]
+#[derive(Clone, Copy)]
 pub enum Sign {
     Token {
         kind: Kind,

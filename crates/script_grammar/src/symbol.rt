@@ -3,7 +3,7 @@
 use crate::{Act, Level, NameRole};
 
 /// A single token.
-#[derive(Clone, Copy, Debug, PartialEq, Eq)]
+#[derive(Clone, Copy)]
 pub enum Terminal {
     Open,
     Close,
@@ -15,7 +15,7 @@ pub enum Terminal {
 }
 
 /// A list with commas in brackets.
-#[derive(Clone, Copy, Debug, PartialEq, Eq)]
+#[derive(Clone, Copy)]
 pub enum Listing {
     Arguments,
     Parameters,
@@ -23,7 +23,7 @@ pub enum Listing {
 }
 
 /// A part that must come. A truth value says that no operator `in` is allowed outside of brackets.
-#[derive(Clone, Copy, Debug, PartialEq, Eq)]
+#[derive(Clone, Copy)]
 pub enum Expected {
     Statement,
     Block,
@@ -48,7 +48,7 @@ pub enum Expected {
 }
 
 /// What may go on behind an expression.
-#[derive(Clone, Copy, Debug, PartialEq, Eq)]
+#[derive(Clone, Copy)]
 pub enum Tail {
     Left,
     /// `++` or `--` behind a target.
@@ -61,7 +61,7 @@ pub enum Tail {
 }
 
 /// What may go on behind a part, with work to be done where it does not.
-#[derive(Clone, Copy, Debug, PartialEq, Eq)]
+#[derive(Clone, Copy)]
 pub enum Loose {
     /// Of a script or a body, else of a block.
     Items(bool),
@@ -86,7 +86,7 @@ pub enum Loose {
 }
 
 /// A point inside a production at which a token must come.
-#[derive(Clone, Copy, Debug, PartialEq, Eq)]
+#[derive(Clone, Copy)]
 pub enum Stage {
     /// The word behind this `.`.
     Word(u32),
@@ -115,7 +115,7 @@ pub enum Stage {
 }
 
 /// What is expected next, with its nesting.
-#[derive(Clone, Copy, Debug, PartialEq, Eq)]
+#[derive(Clone, Copy)]
 pub enum Symbol {
     Part(Expected, u32),
     Tail(Tail, u32),

@@ -4,8 +4,8 @@ use Rattle.std.proofs.lemmas.Slice.Eq.{bytes_eq-Decides}
 use Rattle.std.specs.Io.KnownBytes.{Appends}
 use Rattle.std.specs.Option.{option_or}
 use Rattle.std.specs.Str.{bytes_eq}
-use Rattle.es_model.specs.declared.numbers.NodeId.{NodeId}
-use Rattle.es_model.specs.Tree.{Tree}
+use Rattle.es_tree.specs.declared.numbers.NodeId.{NodeId}
+use Rattle.es_tree.specs.Tree.{Tree}
 use Rattle.hc_outside.specs.Sinks.{AppendsFront}
 use Rattle.hc_outside.proofs.Fronts.{front_after}
 use Rattle.script_host.specs.FirstItems.{Line, Store, Print, with_line, line_at, lines_in}

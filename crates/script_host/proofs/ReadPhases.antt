@@ -1,7 +1,7 @@
 -- Lemmas on the reading of a script, phase by phase.
 use Rattle.std.proofs.Common.{◌≡◌, ◌∙◌, ℕ, List, Result, Ok, Err, sym, ap}
-use Rattle.es_model.specs.Reading.{Reading, reading_of}
-use Rattle.es_model.specs.Tree.{Tree as Checked}
+use Rattle.es_source.specs.Reading.{Reading, reading_of}
+use Rattle.es_tree.specs.Tree.{Tree as Checked}
 use Rattle.script_checker.specs.Contract.{Checks}
 use Rattle.script_grammar.specs.declared.leaf.Leaf.{Leaf}
 use Rattle.script_grammar.specs.Scripts.{Parts}
@@ -10,8 +10,8 @@ use Rattle.script_rules.specs.Faults.{static_fault}
 use Rattle.script_rules.specs.FirstFault.{at_tokens, at_grammar, at_rules}
 use Rattle.script_checker.specs.Made.{checked_tree}
 use Rattle.script_syntax.specs.Readings.{Reads}
-use Rattle.script_syntax.specs.declared.stop.ReadStop.{ReadStop}
-use Rattle.script_syntax.specs.declared.stop.ReadStop.TheVariants.{Fault, NoMemory}
+use Rattle.es_source.specs.declared.stop.ReadStop.{ReadStop}
+use Rattle.es_source.specs.declared.stop.ReadStop.TheVariants.{Fault, NoMemory}
 use Rattle.script_host.specs.Reading.{ReadsScript}
 
 pub tokens_stop : (bytes : List ℕ) (stop : ReadStop) → Reads (reading_of bytes) (Err stop) → ReadsScript bytes (Err stop)

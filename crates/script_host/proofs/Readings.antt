@@ -1,8 +1,8 @@
 -- The bytes of a script have a first fault or a tree, and one alone.
 use Rattle.std.proofs.Common.{◌≡◌, ◌∙◌, ℕ, List, Option, Some, None, Result, Ok, Err, inl, inr, refl, sym, ap, subst, true≢false}
-use Rattle.es_model.specs.declared.faults.SourceFault.{SourceFault}
-use Rattle.es_model.specs.Reading.{Reading, reading_of}
-use Rattle.es_model.specs.Tree.{Tree as Checked}
+use Rattle.es_source.specs.declared.faults.SourceFault.{SourceFault}
+use Rattle.es_source.specs.Reading.{Reading, reading_of}
+use Rattle.es_tree.specs.Tree.{Tree as Checked}
 use Rattle.script_grammar.specs.Completed.{Script, Derives, HasGrammarFault}
 use Rattle.script_grammar.specs.Tree.{Tree}
 use Rattle.script_grammar.proofs.Answer.{one_answer as one_grammar_answer}

@@ -1,8 +1,8 @@
 -- Lemmas on the first item that does not fit.
 use Rattle.std.proofs.Common.{◌≡◌, ◌≤◌, ◌+◌, ◌∷◌, ◌∙◌, ℕ, true, false, List, Option, Some, None, suc, length, drop, slice_get, sym, ap, add-one}
-use Rattle.es_model.specs.declared.numbers.NodeId.{NodeId}
-use Rattle.es_model.specs.declared.place.Place.{Place}
-use Rattle.es_model.specs.Tree.{Tree}
+use Rattle.es_tree.specs.declared.numbers.NodeId.{NodeId}
+use Rattle.es_source.specs.declared.place.Place.{Place}
+use Rattle.es_tree.specs.Tree.{Tree}
 use Rattle.script_host.specs.FirstItems.{fits, first_unfit, place_at}
 use Rattle.script_host.proofs.Drops.{drop_at, drop_all}
 

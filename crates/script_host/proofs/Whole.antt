@@ -1,12 +1,12 @@
 -- The laws of the answers and of what a call leaves.
 use Rattle.std.proofs.Common.{◌≡◌, ◌⊎◌, ◌<◌, ◌++◌, ◌∙◌, [], ℕ, List, Option, Some, None, inl, inr, refl, sym, ap, subst, length, length-append, append-nil, arith}
-use Rattle.es_model.specs.declared.faults.SourceFault.{SourceFault}
-use Rattle.es_model.specs.declared.faults.FaultCode.TheVariants.{TooLong}
-use Rattle.es_model.specs.declared.place.Place.{Place}
-use Rattle.es_model.specs.Places.{place_after}
-use Rattle.es_model.specs.Reading.{fault_at}
-use Rattle.es_model.specs.Tree.{Tree}
-use Rattle.es_model.proofs.Phases.{too_long}
+use Rattle.es_source.specs.declared.faults.SourceFault.{SourceFault}
+use Rattle.es_source.specs.declared.faults.FaultCode.TheVariants.{TooLong}
+use Rattle.es_source.specs.declared.place.Place.{Place}
+use Rattle.es_source.specs.Places.{place_after}
+use Rattle.es_source.specs.Reading.{fault_at}
+use Rattle.es_tree.specs.Tree.{Tree}
+use Rattle.es_source.proofs.Phases.{too_long}
 use Rattle.hc_outside.specs.Files.{bytes_named}
 use Rattle.script_rules.specs.FirstFault.{HasFirstFault, at_tokens}
 use Rattle.script_host.specs.declared.status.Status.TheVariants as status

@@ -2,11 +2,11 @@
 use Rattle.std.specs.Prelude.{◌≡◌, ◌++◌, ◌∷◌, ◌==◌, ◌^◌, [], ℕ, Bool, false, List, Option, Some, None, codes, if◌then◌else◌}
 use Rattle.std.specs.Fmt.{decimal}
 use Rattle.hc_outside.specs.Causes.{Rises}
-use Rattle.es_model.specs.declared.faults.FaultCode.{FaultCode}
-use Rattle.es_model.specs.declared.faults.FaultCode.TheVariants as code
-use Rattle.es_model.specs.declared.faults.SourceFault.{SourceFault}
-use Rattle.es_model.specs.declared.place.Place.{Place}
-use Rattle.es_model.specs.Tree.{Tree}
+use Rattle.es_source.specs.declared.faults.FaultCode.{FaultCode}
+use Rattle.es_source.specs.declared.faults.FaultCode.TheVariants as code
+use Rattle.es_source.specs.declared.faults.SourceFault.{SourceFault}
+use Rattle.es_source.specs.declared.place.Place.{Place}
+use Rattle.es_tree.specs.Tree.{Tree}
 use Rattle.script_checker.specs.Contract.{IsTreeOf}
 use Rattle.script_rules.specs.FirstFault.{HasFirstFault}
 use Rattle.script_rules.specs.Faults.{code_number}

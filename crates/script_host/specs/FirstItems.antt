@@ -2,25 +2,25 @@
 use Rattle.std.specs.Prelude.{◌&&◌, ◌||◌, [], ◌∷◌, ℕ, ℤ, pos, negsuc, suc, Bool, true, false, List, Option, Some, None, codes, nat_le, nat_lt, nat_eq, drop, is_some, slice_get, if◌then◌else◌}
 use Rattle.std.specs.Str.{bytes_eq}
 use Rattle.property_keys.specs.Wholes.{most_whole}
-use Rattle.es_model.specs.declared.body.DeclaredFunction.{DeclaredFunction}
-use Rattle.es_model.specs.declared.expressions.Access.{Access}
-use Rattle.es_model.specs.declared.expressions.Access.TheVariants as access
-use Rattle.es_model.specs.declared.expressions.AssignOperator.TheVariants as assign
-use Rattle.es_model.specs.declared.expressions.Operator.{Operator}
-use Rattle.es_model.specs.declared.expressions.Operator.TheVariants as operator
-use Rattle.es_model.specs.declared.facts.FunctionFacts.{FunctionFacts}
-use Rattle.es_model.specs.declared.names.Target.{Target}
-use Rattle.es_model.specs.declared.names.Target.TheVariants as target
-use Rattle.es_model.specs.declared.node.Node.{Node}
-use Rattle.es_model.specs.declared.node.Node.TheVariants as node
-use Rattle.es_model.specs.declared.numbers.NodeId.{NodeId}
-use Rattle.es_model.specs.declared.place.Place.{Place}
-use Rattle.es_model.specs.declared.primaries.Primary.{Primary}
-use Rattle.es_model.specs.declared.primaries.Primary.TheVariants as primary
-use Rattle.es_model.specs.declared.statements.Declared.{Declared}
-use Rattle.es_model.specs.declared.statements.Statement.{Statement}
-use Rattle.es_model.specs.declared.statements.Statement.TheVariants as statement
-use Rattle.es_model.specs.Tree.{Tree}
+use Rattle.es_tree.specs.declared.body.DeclaredFunction.{DeclaredFunction}
+use Rattle.es_tree.specs.declared.expressions.Access.{Access}
+use Rattle.es_tree.specs.declared.expressions.Access.TheVariants as access
+use Rattle.es_tree.specs.declared.expressions.AssignOperator.TheVariants as assign
+use Rattle.es_tree.specs.declared.expressions.Operator.{Operator}
+use Rattle.es_tree.specs.declared.expressions.Operator.TheVariants as operator
+use Rattle.es_tree.specs.declared.facts.FunctionFacts.{FunctionFacts}
+use Rattle.es_tree.specs.declared.names.Target.{Target}
+use Rattle.es_tree.specs.declared.names.Target.TheVariants as target
+use Rattle.es_tree.specs.declared.node.Node.{Node}
+use Rattle.es_tree.specs.declared.node.Node.TheVariants as node
+use Rattle.es_tree.specs.declared.numbers.NodeId.{NodeId}
+use Rattle.es_source.specs.declared.place.Place.{Place}
+use Rattle.es_tree.specs.declared.primaries.Primary.{Primary}
+use Rattle.es_tree.specs.declared.primaries.Primary.TheVariants as primary
+use Rattle.es_tree.specs.declared.statements.Declared.{Declared}
+use Rattle.es_tree.specs.declared.statements.Statement.{Statement}
+use Rattle.es_tree.specs.declared.statements.Statement.TheVariants as statement
+use Rattle.es_tree.specs.Tree.{Tree}
 use Rattle.script_host.specs.Names.{is_name, is_key}
 
 -- an item after the first

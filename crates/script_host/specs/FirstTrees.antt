@@ -1,8 +1,8 @@
 -- Nodes that are there.
 use Rattle.std.specs.Prelude.{◌<◌, List, length}
 use Rattle.std.specs.List.{AllByRecursion}
-use Rattle.es_model.specs.declared.numbers.NodeId.{NodeId}
-use Rattle.es_model.specs.Tree.{Tree}
+use Rattle.es_tree.specs.declared.numbers.NodeId.{NodeId}
+use Rattle.es_tree.specs.Tree.{Tree}
 
 abbrev pub IsThere : Tree → NodeId → Type 0
 IsThere tree n = n.0 < length tree.nodes

@@ -1,7 +1,7 @@
 -- Laws of the answers to bytes and of what a call leaves, each named by a public function.
 use Rattle.std.specs.Prelude.{◌≡◌, ◌⊎◌, ℕ, List, Some, ⊤}
-use Rattle.es_model.specs.declared.faults.SourceFault.{SourceFault}
-use Rattle.es_model.specs.Tree.{Tree}
+use Rattle.es_source.specs.declared.faults.SourceFault.{SourceFault}
+use Rattle.es_tree.specs.Tree.{Tree}
 use Rattle.hc_outside.specs.Files.{bytes_named}
 use Rattle.script_checker.specs.Contract.{IsTreeOf}
 use Rattle.script_rules.specs.FirstFault.{HasFirstFault}

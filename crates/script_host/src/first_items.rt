@@ -3,14 +3,14 @@
 ghost use Rattle.std.specs.Prelude.{◌≡◌, ◌≤◌, ◌<◌, codes, length, slice_get, Some, IfSome};
 ghost use Rattle.std.specs.Option.{option_map};
 ghost use Rattle.property_keys.specs.Wholes.{most_whole};
-ghost use Rattle.es_model.specs.Tree.{access_children, children_of, operator_children, optional};
+ghost use Rattle.es_tree.specs.Tree.{access_children, children_of, operator_children, optional};
 ghost use Rattle.script_host.specs.FirstItems.{is_new_object, is_text, key_in, line_at, name_declared_in, name_in, node_at, object_name, only, print_in, script_name, store_in, whole_in, whole_of};
 ghost use Rattle.script_host.specs.FirstRun.{line_of, IsInProfile};
 ghost use Rattle.script_host.specs.FirstTrees.{AreThere, IsThere};
 
 use crate::first_line::FirstLine;
 use crate::names::{is_key, is_name, is_text};
-use es_model::{
+use es_tree::{
     Access, AssignOperator, Checked, Declared, Items, Node, NodeId, Operator, Primary, Statement,
     Target,
 };

@@ -8,13 +8,13 @@ ghost use Rattle.script_host.specs.FirstTrees.{IsThere};
 use crate::first_items::{item_of, items_of, line_at, script_name};
 use crate::first_line::FirstLine;
 use crate::first_object::FirstObject;
-use es_model::{Checked, NodeId};
+use es_tree::{Checked, NodeId};
 use hc_outside::{Fault, Sink};
 use property_keys::{NoMemory, Units};
 use std::alloc::Global;
 
 /// Why a run stops before its end.
-#[derive(Clone, Copy, Debug, PartialEq, Eq)]
+#[derive(Clone, Copy)]
 pub enum RunStop {
     /// The sink answered so.
     Sink(Fault),

@@ -15,13 +15,11 @@ mod notes;
 mod outcome;
 mod reading;
 mod status;
-#[cfg(test)]
-mod tests;
 mod top_call;
 mod unfinished;
 mod words;
 
-pub use es_model::Place;
+pub use es_source::Place;
 pub use status::Status;
 pub use top_call::hcjs;
 pub use unfinished::unbuilt;

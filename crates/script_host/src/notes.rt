@@ -8,7 +8,7 @@ ghost use Rattle.script_host.specs.Leaves.{change, sink_view, TookFront, memory_
 ghost use Rattle.script_host.specs.Settling.{EndsMade, EndsNoted};
 
 use crate::Status;
-use es_model::{FaultCode, Place, SourceFault};
+use es_source::{FaultCode, Place, SourceFault};
 use hc_outside::{Fault, Sink, Text};
 use property_keys::NoMemory;
 use std::alloc::Global;

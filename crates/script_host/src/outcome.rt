@@ -13,9 +13,10 @@ use crate::first_run::{RunStop, run_script};
 use crate::reading::read_script;
 use crate::unfinished::unbuilt;
 use crate::words::file_word;
-use es_model::{Checked, Place, SourceFault};
+use es_source::{Place, ReadStop, SourceFault};
+use es_tree::Checked;
 use hc_outside::{Fault, Files, Sink, Text};
-use script_syntax::{MOST_BYTES, ReadStop};
+use script_syntax::MOST_BYTES;
 use std::alloc::Global;
 
 /// How a script ends.

@@ -2,10 +2,11 @@
 
 ghost use Rattle.script_host.specs.Reading.{ReadsScript};
 
-use es_model::Checked;
+use es_source::ReadStop;
+use es_tree::Checked;
 use script_checker::check;
 use script_parser::parse;
-use script_syntax::{ReadStop, tokens};
+use script_syntax::tokens;
 use std::alloc::Global;
 
 /// The tree of a script's bytes, or their first fault: of length, of decoding or of tokens, else of the grammar, else of the static rules.

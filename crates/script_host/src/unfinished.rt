@@ -5,7 +5,8 @@ ghost use Rattle.script_host.specs.FirstItems.{earlier, fits, is_before, place_a
 ghost use Rattle.script_host.specs.FirstTrees.{IsThere};
 
 use crate::first_items::{item_of, items_of, line_at, script_name};
-use es_model::{Checked, NodeId, Place};
+use es_source::Place;
+use es_tree::{Checked, NodeId};
 use property_keys::Units;
 
 /// A script that runs has so many items at most.

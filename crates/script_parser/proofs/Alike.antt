@@ -1,7 +1,7 @@
 -- Two algebras of values that agree make the machine agree.
 use Rattle.std.proofs.Common.{suc, ◌≡◌, ℕ, Bool, true, false, not, ◌&&◌, cond, List, [], ◌∷◌, Option, Some, None, refl, subst, ap}
-use Rattle.es_model.specs.declared.expressions.ShortOperator.TheVariants as sh
-use Rattle.es_model.specs.declared.expressions.UnaryOperator.{UnaryOperator}
+use Rattle.es_tree.specs.declared.expressions.ShortOperator.TheVariants as sh
+use Rattle.es_tree.specs.declared.expressions.UnaryOperator.{UnaryOperator}
 use Rattle.script_grammar.specs.declared.kinds.NameRole.{NameRole}
 use Rattle.script_grammar.specs.declared.kinds.NameRole.TheVariants as role
 use Rattle.script_grammar.specs.declared.kinds.Word.TheVariants as w

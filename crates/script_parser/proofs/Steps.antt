@@ -1,6 +1,6 @@
 -- What the parser's steps on a token say of the grammar.
 use Rattle.std.proofs.Common.{◌≡◌, ◌<◌, ◌≤◌, ℕ, true, false, List, [], ◌∷◌, ◌++◌, length, refl, subst, ap, sym, ◌∙◌, Option, Some, None, Result, Ok, Err, IfOk}
-use Rattle.es_model.specs.declared.token.Token.{Token}
+use Rattle.es_source.specs.declared.token.Token.{Token}
 use Rattle.property_keys.specs.declared.faults.NoMemory.{NoMemory}
 use Rattle.script_grammar.specs.declared.kinds.Kind.{Kind}
 use Rattle.script_grammar.specs.declared.sign.Sign.{Sign}

@@ -1,11 +1,11 @@
 -- The whole of `parse`.
 use Rattle.std.proofs.Common.{suc, zero, ◌+◌, ◌≡◌, ◌≤◌, ℕ, List, [], ◌∷◌, ◌++◌, length, drop, take, map, reverse, slice_get, refl, subst, ap, sym, ◌∙◌, Option, Some, None, Ok, Err, add-one, arith, length-append}
 use Rattle.std.proofs.lemmas.List.{length-reverse}
-use Rattle.es_model.specs.declared.faults.FaultCode.TheVariants as fault_code
-use Rattle.es_model.specs.declared.faults.SourceFault.{SourceFault}
-use Rattle.es_model.specs.declared.token.Token.{Token}
-use Rattle.es_model.specs.Reading.{Reading as Source, fault_at}
-use Rattle.script_syntax.specs.declared.stop.ReadStop.TheVariants.{Fault}
+use Rattle.es_source.specs.declared.faults.FaultCode.TheVariants as fault_code
+use Rattle.es_source.specs.declared.faults.SourceFault.{SourceFault}
+use Rattle.es_source.specs.declared.token.Token.{Token}
+use Rattle.es_source.specs.Reading.{Reading as Source, fault_at}
+use Rattle.es_source.specs.declared.stop.ReadStop.TheVariants.{Fault}
 use Rattle.script_grammar.specs.declared.leaf.Leaf.{Leaf}
 use Rattle.script_grammar.specs.declared.node.Node.{Node}
 use Rattle.script_grammar.specs.declared.symbol.Symbol.{Symbol}

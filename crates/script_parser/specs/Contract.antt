@@ -1,11 +1,11 @@
 -- What `parse` promises.
 use Rattle.std.specs.Prelude.{◌≡◌, [], map, Some, Result, Ok, Err}
-use Rattle.es_model.specs.Reading.{Reading}
+use Rattle.es_source.specs.Reading.{Reading}
 use Rattle.script_grammar.specs.Tree.{Tree}
 use Rattle.script_grammar.specs.Scripts.{Parts, Stands, leaf_of}
 use Rattle.script_grammar.specs.Completed.{Answer, Script, Unexpected, TooDeep, Reads, Derives, HasGrammarFault, fault_of}
-use Rattle.script_syntax.specs.declared.stop.ReadStop.{ReadStop}
-use Rattle.script_syntax.specs.declared.stop.ReadStop.TheVariants.{Fault, NoMemory}
+use Rattle.es_source.specs.declared.stop.ReadStop.{ReadStop}
+use Rattle.es_source.specs.declared.stop.ReadStop.TheVariants.{Fault, NoMemory}
 
 -- The leaves are those of the tokens, and the root stands for a tree that the tokens derive.
 abbrev pub IsScript : Reading → Parts → Type 0

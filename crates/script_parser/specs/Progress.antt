@@ -1,6 +1,6 @@
 -- What reading a token does, by the machine and by the grammar.
 use Rattle.std.specs.Prelude.{suc, ◌≡◌, ℕ, Bool, true, false, List, [], ◌∷◌, Option, Some, None, drop}
-use Rattle.es_model.specs.declared.token.Token.{Token}
+use Rattle.es_source.specs.declared.token.Token.{Token}
 use Rattle.script_grammar.specs.declared.node.Node.{Node}
 use Rattle.script_grammar.specs.declared.sign.Sign.{Sign}
 use Rattle.script_grammar.specs.declared.sign.Sign.TheVariants.{Inserted as put}

@@ -3,7 +3,8 @@
 ghost use Rattle.std.specs.Prelude.{◌≡◌, bytes_eq, map};
 ghost use Rattle.script_grammar.specs.Kinds.{kind_of, kind_in, words, punctuators};
 
-use es_model::{AssignOperator, BinaryOperator, ShortOperator, TokenKind};
+use es_source::TokenKind;
+use es_tree::{AssignOperator, BinaryOperator, ShortOperator};
 use property_keys::Units;
 use script_grammar::{Bracket, Kind, Mark, NameRole, Word};
 

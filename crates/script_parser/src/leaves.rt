@@ -3,7 +3,7 @@
 ghost use Rattle.std.specs.Prelude.{◌≡◌, ◌++◌, ◌∷◌, [], IfOk, OnOk, map};
 ghost use Rattle.script_grammar.specs.Scripts.{leaf_of, leaf_kind};
 
-use es_model::{Token, TokenKind};
+use es_source::{Token, TokenKind};
 use property_keys::{KeyFault, NoMemory, Units};
 use script_grammar::{Leaf, LeafKind};
 use script_syntax::Tokens;

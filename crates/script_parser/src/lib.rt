@@ -7,6 +7,3 @@ mod parser;
 mod script;
 
 pub use script::parse;
-
-#[cfg(test)]
-mod tests;

@@ -1,14 +1,14 @@
 //! The whole.
 
 ghost use Rattle.std.specs.Prelude.{◌≡◌, ◌<◌, length, slice_get, Some};
-ghost use Rattle.es_model.specs.Reading.{fault_at};
+ghost use Rattle.es_source.specs.Reading.{fault_at};
 ghost use Rattle.script_parser.specs.Contract.{Parses};
 
 use crate::leaves::leaves_of;
 use crate::parser::{Parser, Reading};
-use es_model::{FaultCode, SourceFault, Token};
+use es_source::{FaultCode, ReadStop, SourceFault, Token};
 use script_grammar::Script;
-use script_syntax::{ReadStop, Tokens};
+use script_syntax::Tokens;
 use std::alloc::Global;
 
 /// A fault at a token.

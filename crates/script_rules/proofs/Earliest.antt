@@ -2,9 +2,9 @@
 use Rattle.std.proofs.Common.{◌≡◌, ◌∙◌, ap, sym, refl, ℕ, Bool, true, false, ◌&&◌, ◌||◌, nat_eq, nat_lt, inl, inr, List, [], ◌∷◌, ◌++◌, Option, Some, None, slice_index_or, arith}
 use Rattle.std.proofs.lemmas.Bool.{cases_Bool}
 use Rattle.std.proofs.lemmas.Bool.Decides.{nat_tests}
-use Rattle.es_model.specs.declared.faults.FaultCode.{FaultCode}
-use Rattle.es_model.specs.declared.faults.FaultCode.TheVariants as code
-use Rattle.es_model.specs.declared.faults.SourceFault.{SourceFault}
+use Rattle.es_source.specs.declared.faults.FaultCode.{FaultCode}
+use Rattle.es_source.specs.declared.faults.FaultCode.TheVariants as code
+use Rattle.es_source.specs.declared.faults.SourceFault.{SourceFault}
 use Rattle.script_rules.specs.Faults.{code_number, is_before, least, lesser}
 use Rattle.script_rules.specs.Order.{earlier}
 

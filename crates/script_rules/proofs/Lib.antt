@@ -10,4 +10,3 @@ pub mod Seen
 pub mod Steps
 pub mod Visits
 pub mod Whole
-pub mod Below

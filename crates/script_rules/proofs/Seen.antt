@@ -5,14 +5,14 @@ use Rattle.std.specs.Map.{lookup}
 use Rattle.std.specs.Str.{bytes_eq}
 use Rattle.std.proofs.lemmas.List.{at_drop_more, take_more}
 use Rattle.std.proofs.lemmas.Slice.Eq.{bytes_eq-Decides}
-use Rattle.es_model.specs.declared.faults.SourceFault.{SourceFault}
+use Rattle.es_source.specs.declared.faults.SourceFault.{SourceFault}
 use Rattle.script_grammar.specs.declared.leaf.Leaf.{Leaf}
 use Rattle.script_rules.specs.declared.manner.Declared.{Declared}
 use Rattle.script_rules.specs.declared.manner.Manner.{Manner}
 use Rattle.script_rules.specs.declared.manner.Manner.TheVariants as manner
 use Rattle.script_rules.specs.Names.{units_at}
 use Rattle.script_rules.specs.Faults.{clash, clashes, duplicates_after, fault_where, least}
-use Rattle.es_model.specs.declared.faults.FaultCode.TheVariants as code
+use Rattle.es_source.specs.declared.faults.FaultCode.TheVariants as code
 use Rattle.script_rules.specs.Order.{earlier}
 use Rattle.script_rules.specs.Seen.{clash_with, stronger, stronger_of, Tells, GoesOver}
 use Rattle.script_rules.proofs.Earliest.{associates, least-append}

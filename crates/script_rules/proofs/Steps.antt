@@ -1,6 +1,6 @@
 -- The steps of a visit, as the contracts of their calls say them.
 use Rattle.std.proofs.Common.{◌≡◌, ◌<◌, ◌++◌, ap, refl, ℕ, ◌+◌, Bool, List, [], length, Option, Some, Result, Ok, Err, OnOk, IfOk, append-nil}
-use Rattle.es_model.specs.declared.faults.SourceFault.{SourceFault}
+use Rattle.es_source.specs.declared.faults.SourceFault.{SourceFault}
 use Rattle.script_grammar.specs.declared.leaf.Leaf.{Leaf}
 use Rattle.script_grammar.specs.declared.node.Node.{Node}
 use Rattle.script_rules.specs.declared.scope.Scope.{Scope}

@@ -1,6 +1,6 @@
 -- The whole walk of a script.
 use Rattle.std.proofs.Common.{◌≡◌, ◌<◌, ◌++◌, ◌∙◌, ap, sym, refl, ℕ, suc, false, List, [], ◌∷◌, Option, None, append-nil, arith}
-use Rattle.es_model.specs.declared.faults.SourceFault.{SourceFault}
+use Rattle.es_source.specs.declared.faults.SourceFault.{SourceFault}
 use Rattle.script_grammar.specs.declared.leaf.Leaf.{Leaf}
 use Rattle.script_grammar.specs.declared.node.Node.{Node}
 use Rattle.script_grammar.specs.Tree.{Tree}

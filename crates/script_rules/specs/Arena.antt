@@ -1,5 +1,5 @@
 -- The tree that a node of a script stands for.
-use Rattle.std.specs.Prelude.{◌≡◌, ◌<◌, ℕ, zero, suc, List, [], ◌∷◌, length, Option, Some, None, slice_get}
+use Rattle.std.specs.Prelude.{◌≡◌, ◌<◌, ℕ, zero, suc, List, [], ◌∷◌, Option, Some, None, slice_get}
 use Rattle.script_grammar.specs.declared.labels.Atom.TheVariants as atom
 use Rattle.script_grammar.specs.declared.labels.Wrap.{Wrap}
 use Rattle.script_grammar.specs.declared.labels.Pair.{Pair}
@@ -73,20 +73,3 @@ HasParts ns n (node.Wrap f i) = IsWrap ns n f i
 HasParts ns n (node.Pair f i j) = IsPair ns n f i j
 HasParts ns n (node.Triple f i j k) = IsTriple ns n f i j k
 HasParts ns n (node.Quad f i j k l) = IsQuad ns n f i j k l
-
--- ---- parts have numbers below that of their node
-
-abbrev pub AreBelow : ℕ → Node → Type 0
-AreBelow n (node.Atom f) = Unit {0}
-AreBelow n (node.Wrap f i) = i < n
-AreBelow n (node.Pair f i j) = (i < n) × (j < n)
-AreBelow n (node.Triple f i j k) = (i < n) × (j < n) × (k < n)
-AreBelow n (node.Quad f i j k l) = (i < n) × (j < n) × (k < n) × (l < n)
-
-abbrev pub AllBelow : List Node → Type 0
-AllBelow ns = (n : ℕ) (d : Node) → slice_get ns n ≡ Some d → AreBelow n d
-
--- each node stands for a tree, and one of them is the root
-pub record IsWhole (ns : List Node) (root : ℕ) : Type 0 where
-  pub below : AllBelow ns
-  pub known : root < length ns

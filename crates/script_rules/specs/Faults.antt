@@ -1,11 +1,11 @@
 -- The static rules of a script, as pairs of place and code, and the least of them.
 use Rattle.std.specs.Prelude.{ℕ, Bool, true, false, ◌&&◌, ◌||◌, not, List, [], ◌∷◌, ◌++◌, flat_map, drop, codes, bytes_eq, nat_lt, nat_eq, Option, Some, None, if◌then◌else◌, slice_get}
 use Rattle.std.specs.List.{list_any}
-use Rattle.es_model.specs.declared.expressions.UnaryOperator.{UnaryOperator}
-use Rattle.es_model.specs.declared.expressions.UnaryOperator.TheVariants as unary
-use Rattle.es_model.specs.declared.faults.FaultCode.{FaultCode}
-use Rattle.es_model.specs.declared.faults.FaultCode.TheVariants as code
-use Rattle.es_model.specs.declared.faults.SourceFault.{SourceFault}
+use Rattle.es_tree.specs.declared.expressions.UnaryOperator.{UnaryOperator}
+use Rattle.es_tree.specs.declared.expressions.UnaryOperator.TheVariants as unary
+use Rattle.es_source.specs.declared.faults.FaultCode.{FaultCode}
+use Rattle.es_source.specs.declared.faults.FaultCode.TheVariants as code
+use Rattle.es_source.specs.declared.faults.SourceFault.{SourceFault}
 use Rattle.script_grammar.specs.declared.leaf.Leaf.{Leaf}
 use Rattle.script_grammar.specs.declared.labels.Atom.TheVariants as atom
 use Rattle.script_grammar.specs.declared.labels.Wrap.TheVariants as wrap

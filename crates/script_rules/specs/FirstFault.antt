@@ -1,8 +1,8 @@
 -- The first fault of a file. Each phase goes over the whole file: length, decoding and tokens, grammar, static rules.
 use Rattle.std.specs.Prelude.{◌≡◌, ℕ, List, map, Option, Some, None, Ok, Err}
-use Rattle.es_model.specs.declared.faults.SourceFault.{SourceFault}
-use Rattle.es_model.specs.declared.token.Token.{Token}
-use Rattle.es_model.specs.Reading.{Reading, reading_of}
+use Rattle.es_source.specs.declared.faults.SourceFault.{SourceFault}
+use Rattle.es_source.specs.declared.token.Token.{Token}
+use Rattle.es_source.specs.Reading.{Reading, reading_of}
 use Rattle.script_grammar.specs.declared.leaf.Leaf.{Leaf}
 use Rattle.script_grammar.specs.Completed.{Derives, HasGrammarFault}
 use Rattle.script_grammar.specs.Scripts.{leaf_of}

@@ -1,6 +1,6 @@
 -- The earlier of two faults, where there are any.
 use Rattle.std.specs.Prelude.{Option, Some, None}
-use Rattle.es_model.specs.declared.faults.SourceFault.{SourceFault}
+use Rattle.es_source.specs.declared.faults.SourceFault.{SourceFault}
 use Rattle.script_rules.specs.Faults.{lesser}
 
 abbrev pub earlier : Option SourceFault → Option SourceFault → Option SourceFault

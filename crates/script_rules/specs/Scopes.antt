@@ -1,8 +1,8 @@
 -- Scopes, and what a name is bound to.
 use Rattle.std.specs.Prelude.{ℕ, ◌+◌, Bool, true, false, ◌||◌, List, [], ◌∷◌, map, length, codes, bytes_eq, Option, Some, None, if◌then◌else◌}
 use Rattle.std.specs.List.{list_any}
-use Rattle.es_model.specs.declared.names.Binding.{Binding}
-use Rattle.es_model.specs.declared.names.Binding.TheVariants as binding
+use Rattle.es_tree.specs.declared.names.Binding.{Binding}
+use Rattle.es_tree.specs.declared.names.Binding.TheVariants as binding
 use Rattle.script_grammar.specs.declared.leaf.Leaf.{Leaf}
 use Rattle.script_rules.specs.declared.manner.Manner.{Manner}
 use Rattle.script_rules.specs.declared.manner.Manner.TheVariants as manner

@@ -3,7 +3,7 @@ use Rattle.std.specs.Prelude.{◌≡◌, ℕ, Bool, false, List, Option, Some, N
 use Rattle.std.specs.List.{list_any}
 use Rattle.std.specs.Map.{lookup}
 use Rattle.std.specs.Str.{bytes_eq}
-use Rattle.es_model.specs.declared.faults.SourceFault.{SourceFault}
+use Rattle.es_source.specs.declared.faults.SourceFault.{SourceFault}
 use Rattle.script_grammar.specs.declared.leaf.Leaf.{Leaf}
 use Rattle.script_rules.specs.declared.manner.Declared.{Declared}
 use Rattle.script_rules.specs.declared.manner.Manner.{Manner}

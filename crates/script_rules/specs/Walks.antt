@@ -1,6 +1,6 @@
 -- How the parts of a script are gone through for their faults.
 use Rattle.std.specs.Prelude.{◌≡◌, ◌<◌, ℕ, suc, ◌+◌, Bool, true, false, List, [], ◌∷◌, ◌++◌, length, Option, Some, None}
-use Rattle.es_model.specs.declared.faults.SourceFault.{SourceFault}
+use Rattle.es_source.specs.declared.faults.SourceFault.{SourceFault}
 use Rattle.script_grammar.specs.declared.leaf.Leaf.{Leaf}
 use Rattle.script_grammar.specs.declared.node.Node.{Node}
 use Rattle.script_grammar.specs.declared.labels.Atom.TheVariants as atom

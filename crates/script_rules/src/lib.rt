@@ -26,6 +26,3 @@ pub use scope_makers::{function_scope, part_scope, script_scope};
 pub use scope_names::ScopeNames;
 pub use scopes::Scopes;
 pub use token_units::own_units_at;
-
-#[cfg(test)]
-mod tests;

@@ -1,5 +1,5 @@
 /// How a name comes to be declared.
-#[derive(Clone, Copy, Debug, PartialEq, Eq)]
+#[derive(Clone, Copy, PartialEq)]
 pub enum Manner {
     /// By `let`.
     Let,
@@ -14,7 +14,7 @@ pub enum Manner {
 }
 
 /// A declared name, by the number of its token.
-#[derive(Clone, Copy, Debug, PartialEq, Eq)]
+#[derive(Clone, Copy, PartialEq)]
 pub struct Declared {
     pub name: u32,
     pub manner: Manner,

@@ -1,5 +1,5 @@
 /// What a part is to the part around it.
-#[derive(Clone, Copy, Debug, PartialEq, Eq)]
+#[derive(Clone, Copy)]
 pub enum Role {
     /// A statement, or an expression whose value is read.
     Plain,

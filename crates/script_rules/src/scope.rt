@@ -2,7 +2,7 @@ use crate::ScopeNames;
 use property_keys::Units;
 
 /// What a scope belongs to.
-#[derive(Clone, Copy, Debug, PartialEq, Eq)]
+#[derive(Clone, Copy)]
 pub enum Owner {
     /// The script itself.
     Script,

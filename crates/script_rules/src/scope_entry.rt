@@ -7,11 +7,11 @@ ghost use Rattle.script_rules.specs.Scopes.{first_place, found_in, in_force_afte
 
 use crate::token_units::is_text;
 use crate::{Owner, Resolved, Scope};
-use es_model::Binding;
+use es_tree::Binding;
 use property_keys::{NoMemory, Units};
 
 /// The number of a scope in its table.
-#[derive(Clone, Copy, Debug, PartialEq, Eq)]
+#[derive(Clone, Copy)]
 pub struct ScopeId(pub u32);
 
 /// A scope, the one around it, the place of its first name, and how many names of the running body are in force after it.

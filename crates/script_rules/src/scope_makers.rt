@@ -13,7 +13,7 @@ use script_grammar::Script;
 use std::alloc::Global;
 
 /// Which names are added to a scope.
-#[derive(Clone, Copy, Debug, PartialEq, Eq)]
+#[derive(Clone, Copy)]
 enum Wanted {
     All,
     Lexical,

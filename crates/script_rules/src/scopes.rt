@@ -4,7 +4,7 @@ ghost use Rattle.script_rules.specs.Scopes.{in_force, is_in_function, resolved};
 
 use crate::scope_entry::{Entry, entry_of, is_away, is_of_function, says};
 use crate::{Resolved, Scope, ScopeId};
-use es_model::Binding;
+use es_tree::Binding;
 use property_keys::{NoMemory, Units};
 use std::alloc::Global;
 use std::marker::Model;

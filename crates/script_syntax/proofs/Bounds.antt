@@ -3,7 +3,7 @@ use Rattle.std.proofs.Common.{◌≡◌, ◌==◌, ◌∷◌, ◌+◌, ◌*◌, 
 use Rattle.std.specs.List.{fold}
 use Rattle.std.specs.Char.{len_utf8}
 use Rattle.std.proofs.lemmas.Str.{len_utf8_bounds, length-le-encodes, encodes-chars}
-use Rattle.es_model.specs.Places.{ends_line, ended_lines, last_line}
+use Rattle.es_source.specs.Places.{ends_line, ended_lines, last_line}
 use Rattle.script_syntax.specs.Positions.{position_after}
 use Rattle.script_syntax.specs.declared.positions.Position.{Position}
 

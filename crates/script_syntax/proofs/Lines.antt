@@ -4,7 +4,7 @@ use Rattle.std.proofs.lemmas.List.Sums.{sum_by-append}
 use Rattle.std.proofs.lemmas.Bool.{eqb-true, ne_eqb, false≢true}
 use Rattle.std.specs.Char.{len_utf8}
 use Rattle.property_keys.specs.Blanks.{is_line_terminator}
-use Rattle.es_model.specs.Places.{ends_line, ended_lines, last_line, place_after}
+use Rattle.es_source.specs.Places.{ends_line, ended_lines, last_line, place_after}
 use Rattle.script_syntax.specs.Positions.{ends_in_return, position_after}
 use Rattle.script_syntax.specs.declared.positions.Position.{Position}
 

@@ -2,8 +2,8 @@
 use Rattle.std.proofs.Common.{◌≡◌, ◌==◌, ◌∙◌, ◌++◌, ◌∷◌, ◌+◌, ◌≤◌, ◌<◌, [], ℕ, zero, suc, false, List, length, drop, get_or, Option, Some, None, option_map, Err, refl, sym, ap, arith, append_assoc, length-drop, subst}
 use Rattle.script_syntax.proofs.Units.{too_many}
 use Rattle.std.proofs.lemmas.List.{drop-drop, drop_more}
-use Rattle.es_model.specs.Forms.{is_short}
-use Rattle.es_model.specs.Texts.{part_at, units_for, with_part, after_part, text_from}
+use Rattle.es_source.specs.Forms.{is_short}
+use Rattle.es_source.specs.Texts.{part_at, units_for, with_part, after_part, text_from}
 use Rattle.script_syntax.specs.Stops.{IsBadText, ScansText, Adds}
 use Rattle.script_syntax.specs.declared.stop.TokenStop.{TokenStop}
 use Rattle.script_syntax.specs.declared.stop.TokenStop.TheVariants.{Bad, NoMemory}

@@ -1,9 +1,9 @@
 -- The fault of bytes that are not UTF-8, at a place that a scanner holds.
 use Rattle.std.proofs.Common.{◌≡◌, ℕ, List, ap}
-use Rattle.es_model.specs.Places.{place_after}
-use Rattle.es_model.specs.Reading.{fault_at}
-use Rattle.es_model.specs.declared.faults.FaultCode.TheVariants.{NotUtf8}
-use Rattle.es_model.specs.declared.faults.SourceFault.{SourceFault}
+use Rattle.es_source.specs.Places.{place_after}
+use Rattle.es_source.specs.Reading.{fault_at}
+use Rattle.es_source.specs.declared.faults.FaultCode.TheVariants.{NotUtf8}
+use Rattle.es_source.specs.declared.faults.SourceFault.{SourceFault}
 use Rattle.script_syntax.specs.Positions.{position_after}
 use Rattle.script_syntax.specs.declared.positions.Position.{Position}
 

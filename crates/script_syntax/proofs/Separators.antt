@@ -3,7 +3,7 @@ use Rattle.std.proofs.Common.{◌≡◌, ◌∙◌, ◌∷◌, ◌+◌, ◌≤�
 use Rattle.std.proofs.lemmas.Bool.{false≢true}
 use Rattle.std.proofs.lemmas.List.{drop-drop, drop_all, drop_more}
 use Rattle.std.specs.List.{starts_with}
-use Rattle.es_model.specs.Gaps.{to_comment_end, separator_length, one_more, after_separator, gap_from, gap_of}
+use Rattle.es_source.specs.Gaps.{to_comment_end, separator_length, one_more, after_separator, gap_from, gap_of}
 
 -- so many characters more
 abbrev pub later_by : ℕ → Option ℕ → Option ℕ

@@ -2,18 +2,18 @@
 use Rattle.std.proofs.Common.{◌≡◌, ◌∙◌, ◌∷◌, ◌++◌, ◌+◌, ◌≤◌, ◌<◌, [], ℕ, zero, suc, pred, Bool, true, false, List, length, take, drop, Some, None, Result, Ok, Err, refl, sym, ap, arith, append_assoc, append-nil, length-drop, take-append-drop}
 use Rattle.std.proofs.lemmas.List.{drop-drop}
 use Rattle.std.proofs.Math.Seq.{take-add}
-use Rattle.es_model.specs.Places.{place_after}
-use Rattle.es_model.specs.Reading.{Next, next_of, tokens_by, tokens_from, token_after, with_token, hashbang_length, reading_of_characters, with_ending}
-use Rattle.es_model.specs.Reading.Next.{Ends, Fails, Comes}
-use Rattle.es_model.specs.declared.faults.SourceFault.{SourceFault}
-use Rattle.es_model.specs.declared.token.Token.{Token}
+use Rattle.es_source.specs.Places.{place_after}
+use Rattle.es_source.specs.Reading.{Next, next_of, tokens_by, tokens_from, token_after, with_token, hashbang_length, reading_of_characters, with_ending}
+use Rattle.es_source.specs.Reading.Next.{Ends, Fails, Comes}
+use Rattle.es_source.specs.declared.faults.SourceFault.{SourceFault}
+use Rattle.es_source.specs.declared.token.Token.{Token}
 use Rattle.script_syntax.specs.Positions.{position_after}
 use Rattle.script_syntax.specs.Readings.{listed, Reads}
 use Rattle.script_syntax.specs.Scanning.{step_of, IsStep, EndsAt}
 use Rattle.script_syntax.specs.declared.positions.Position.{Position}
 use Rattle.script_syntax.specs.declared.scanning.Found.{Found}
-use Rattle.script_syntax.specs.declared.stop.ReadStop.{ReadStop}
-use Rattle.script_syntax.specs.declared.stop.ReadStop.TheVariants.{Fault, NoMemory}
+use Rattle.es_source.specs.declared.stop.ReadStop.{ReadStop}
+use Rattle.es_source.specs.declared.stop.ReadStop.TheVariants.{Fault, NoMemory}
 
 -- the characters of a token that was found are passed
 pass : (is_first : Bool) (before : List ℕ) (n : ℕ) (cs : List ℕ) → n ≤ length cs

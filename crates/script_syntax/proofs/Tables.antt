@@ -4,7 +4,7 @@ use Rattle.std.specs.Prelude.{fold}
 use Rattle.std.specs.List.{list_all, starts_with}
 use Rattle.std.specs.Char.Escape.{encode_utf16}
 use Rattle.std.proofs.lemmas.Bool.{and_parts, leb-true, le-leb}
-use Rattle.es_model.specs.Forms.{units_of, is_short, punctuators, longer_at, longest_punctuator, punctuator_at}
+use Rattle.es_source.specs.Forms.{units_of, is_short, punctuators, longer_at, longest_punctuator, punctuator_at}
 use Rattle.script_syntax.specs.Stops.{Scans, Makes}
 use Rattle.script_syntax.specs.declared.stop.TokenStop.{TokenStop}
 use Rattle.script_syntax.specs.declared.stop.TokenStop.TheVariants.{Bad, NoMemory}

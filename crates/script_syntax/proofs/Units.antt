@@ -2,7 +2,7 @@
 use Rattle.std.proofs.Common.{◌≡◌, ◌∙◌, ◌++◌, ◌∷◌, ◌<◌, ◌^◌, [], ℕ, zero, suc, false, List, length, take, drop, get_or, Err, sym, ap, arith, append_assoc, length-append}
 use Rattle.std.proofs.lemmas.Bool.{leb-false, lt-leb}
 use Rattle.std.specs.Char.Escape.{encode_utf16}
-use Rattle.es_model.specs.Forms.{units_of, is_short}
+use Rattle.es_source.specs.Forms.{units_of, is_short}
 use Rattle.script_syntax.specs.Stops.{Makes, Adds}
 use Rattle.script_syntax.specs.declared.stop.TokenStop.{TokenStop}
 use Rattle.script_syntax.specs.declared.stop.TokenStop.TheVariants.{Bad, NoMemory}

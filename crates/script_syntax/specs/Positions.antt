@@ -1,6 +1,6 @@
 -- The place that a scanner has reached.
 use Rattle.std.specs.Prelude.{◌==◌, ℕ, Bool, false, List, [], ◌∷◌}
-use Rattle.es_model.specs.Places.{place_after}
+use Rattle.es_source.specs.Places.{place_after}
 use Rattle.script_syntax.specs.declared.positions.Position.{Position}
 
 -- Whether the last of these characters is a CR.

@@ -1,10 +1,10 @@
 -- What the whole scanner answers.
 use Rattle.std.specs.Prelude.{◌≡◌, ℕ, List, Result, Ok, Err}
-use Rattle.es_model.specs.Reading.{Reading}
-use Rattle.es_model.specs.declared.faults.SourceFault.{SourceFault}
-use Rattle.es_model.specs.declared.token.Token.{Token}
-use Rattle.script_syntax.specs.declared.stop.ReadStop.{ReadStop}
-use Rattle.script_syntax.specs.declared.stop.ReadStop.TheVariants.{Fault, NoMemory}
+use Rattle.es_source.specs.Reading.{Reading}
+use Rattle.es_source.specs.declared.faults.SourceFault.{SourceFault}
+use Rattle.es_source.specs.declared.token.Token.{Token}
+use Rattle.es_source.specs.declared.stop.ReadStop.{ReadStop}
+use Rattle.es_source.specs.declared.stop.ReadStop.TheVariants.{Fault, NoMemory}
 
 -- tokens, and the line and the column one past the last character
 abbrev pub listed : List Token → ℕ → ℕ → Reading

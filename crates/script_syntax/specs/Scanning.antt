@@ -1,15 +1,15 @@
 -- One step of the scanner.
 use Rattle.std.specs.Prelude.{◌≡◌, ◌++◌, ◌+◌, ℕ, Bool, List, take, Option, Some, None, Result, Ok, Err}
-use Rattle.es_model.specs.Places.{place_after}
-use Rattle.es_model.specs.Reading.{Next, fault_at, token_after}
-use Rattle.es_model.specs.Reading.Next.{Ends, Fails, Comes}
-use Rattle.es_model.specs.declared.faults.FaultCode.TheVariants.{BadToken}
-use Rattle.es_model.specs.declared.faults.SourceFault.{SourceFault}
-use Rattle.es_model.specs.declared.token.Token.{Token}
+use Rattle.es_source.specs.Places.{place_after}
+use Rattle.es_source.specs.Reading.{Next, fault_at, token_after}
+use Rattle.es_source.specs.Reading.Next.{Ends, Fails, Comes}
+use Rattle.es_source.specs.declared.faults.FaultCode.TheVariants.{BadToken}
+use Rattle.es_source.specs.declared.faults.SourceFault.{SourceFault}
+use Rattle.es_source.specs.declared.token.Token.{Token}
 use Rattle.script_syntax.specs.Positions.{position_after}
 use Rattle.script_syntax.specs.declared.scanning.Found.{Found}
-use Rattle.script_syntax.specs.declared.stop.ReadStop.{ReadStop}
-use Rattle.script_syntax.specs.declared.stop.ReadStop.TheVariants.{Fault, NoMemory}
+use Rattle.es_source.specs.declared.stop.ReadStop.{ReadStop}
+use Rattle.es_source.specs.declared.stop.ReadStop.TheVariants.{Fault, NoMemory}
 
 -- what comes next after the characters before: nothing, a token with how many characters it takes with the gap before it, or a fault
 abbrev pub step_of : Bool → List ℕ → List ℕ → Next → Result (Option (Token × ℕ)) SourceFault

@@ -1,7 +1,7 @@
 -- What a scanner answers, beside what the definition gives. Want of memory is free, and every other answer is the definition's.
 use Rattle.std.specs.Prelude.{◌≡◌, ◌++◌, ℕ, List, false, Option, Some, None, Result, Ok, Err}
-use Rattle.es_model.specs.Forms.{is_short}
-use Rattle.es_model.specs.declared.token.TokenKind.{TokenKind}
+use Rattle.es_source.specs.Forms.{is_short}
+use Rattle.es_source.specs.declared.token.TokenKind.{TokenKind}
 use Rattle.script_syntax.specs.declared.stop.TokenStop.{TokenStop}
 use Rattle.script_syntax.specs.declared.stop.TokenStop.TheVariants.{Bad, NoMemory}
 

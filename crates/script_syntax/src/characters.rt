@@ -2,8 +2,8 @@
 
 ghost use Rattle.std.specs.Prelude.{◌≡◌};
 ghost use Rattle.property_keys.specs.Blanks.{is_white_space, is_line_terminator};
-ghost use Rattle.es_model.specs.Characters.{starts_name, continues_name};
-ghost use Rattle.es_model.specs.Texts.{is_quote};
+ghost use Rattle.es_source.specs.Characters.{starts_name, continues_name};
+ghost use Rattle.es_source.specs.Texts.{is_quote};
 
 use unicode_ident::{is_xid_continue, is_xid_start};
 

@@ -3,8 +3,8 @@
 ghost use Rattle.std.specs.Prelude.{◌≡◌, ◌<◌, ◌≤◌, ◌+◌, ◌*◌, ℕ, IfSome, IsTrue, length, option_map};
 ghost use Rattle.std.specs.List.{list_all};
 ghost use Rattle.std.specs.Str.Parse.{digits_value};
-ghost use Rattle.es_model.specs.Characters.{is_digit_of};
-ghost use Rattle.es_model.specs.Texts.{escaped, hexadecimal, braced, unicode_escape, escape_at, part_at};
+ghost use Rattle.es_source.specs.Characters.{is_digit_of};
+ghost use Rattle.es_source.specs.Texts.{escaped, hexadecimal, braced, unicode_escape, escape_at, part_at};
 ghost use Rattle.script_syntax.specs.Limits.{FitsPart};
 
 use crate::characters::is_line_terminator;

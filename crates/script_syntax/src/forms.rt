@@ -1,7 +1,7 @@
 //! The token at the front of the characters (ECMA-262, 12.6 to 12.9).
 
 ghost use Rattle.std.specs.Prelude.{◌≡◌, ◌<◌, ◌≤◌, ℕ, IfOk, length};
-ghost use Rattle.es_model.specs.Reading.{token_at};
+ghost use Rattle.es_source.specs.Reading.{token_at};
 ghost use Rattle.script_syntax.specs.Stops.{Scans};
 
 use crate::characters::{is_quote, may_start_name};
@@ -10,7 +10,7 @@ use crate::numbers::number_at;
 use crate::punctuators::punctuator_at;
 use crate::stop::TokenStop;
 use crate::texts::text_at;
-use es_model::TokenKind;
+use es_source::TokenKind;
 use std::alloc::Global;
 
 /// The token at the front and how many characters it takes.

@@ -1,8 +1,10 @@
 //! White space, line terminators and comments between tokens (ECMA-262, 12.2 to 12.5).
 
-ghost use Rattle.std.specs.Prelude.{◌≡◌, ◌<◌, ◌≤◌, ℕ, length, IfSome, MatchResult};
-ghost use Rattle.es_model.specs.Gaps.{to_line_end, to_comment_end, separator_length, gap_of};
-ghost use Rattle.es_model.specs.Reading.{hashbang_length};
+ghost use Rattle.std.specs.Prelude.{◌≡◌, ◌<◌, ◌≤◌, ◌||◌, ℕ, length, IfSome, MatchResult};
+ghost use Rattle.property_keys.specs.Blanks.{is_white_space, is_line_terminator};
+ghost use Rattle.es_source.specs.Characters.{begins};
+ghost use Rattle.es_source.specs.Gaps.{to_line_end, to_comment_end, separator_length, gap_of};
+ghost use Rattle.es_source.specs.Reading.{hashbang_length};
 
 use crate::characters::{is_line_terminator, is_white_space};
 
@@ -27,12 +29,26 @@ fn to_comment_end(rest: &[char]) -> Option<usize>
     None
 }
 
+/// Whether white space or a line terminator stands at the front.
+fn begins_with_blank(rest: &[char]) -> bool
+    ensures { result ≡ begins (λ c. is_white_space c || is_line_terminator c) rest.now }
+{
+    match rest.first() {
+        Some(first) => is_white_space(*first) || is_line_terminator(*first),
+        None => false,
+    }
+}
+
 /// How many characters the white space, the line terminator or the comment at the front takes, 0 where none stands there; `None` where a comment
 /// has no end.
 fn separator_length(rest: &[char]) -> Option<usize>
     ensures value { result ≡ separator_length rest.now }
     ensures bound { IfSome result (λ n. n ≤ length rest.now) }
 {
+    // Blanks come first, since there are many, and none of them begins a comment.
+    if begins_with_blank(rest) {
+        return Some(1);
+    }
     if rest.starts_with(&['/', '/']) {
         return Some(to_line_end(rest));
     }
@@ -42,10 +58,7 @@ fn separator_length(rest: &[char]) -> Option<usize>
             None => None,
         };
     }
-    match rest.first() {
-        Some(first) if is_white_space(*first) || is_line_terminator(*first) => Some(1),
-        _ => Some(0),
-    }
+    Some(0)
 }
 
 /// How many characters stand before the next token or the end; the error is how many stand before a comment that has no end.

@@ -15,10 +15,6 @@ mod stop;
 mod texts;
 mod token_list;
 
-pub use es_model::{FaultCode, SourceFault, Token, TokenKind};
+pub use es_source::{FaultCode, ReadStop, SourceFault, Token, TokenKind};
 pub use reading::{MOST_BYTES, tokens};
-pub use stop::ReadStop;
 pub use token_list::Tokens;
-
-#[cfg(test)]
-mod tests;

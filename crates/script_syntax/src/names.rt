@@ -2,13 +2,13 @@
 
 ghost use Rattle.std.specs.Prelude.{◌≡◌, ◌<◌, ◌≤◌, ◌∷◌, [], ℕ, IfOk, IsTrue, length, take_while};
 ghost use Rattle.std.specs.Char.Escape.{encode_utf16};
-ghost use Rattle.es_model.specs.Characters.{starts_name, continues_name, begins};
-ghost use Rattle.es_model.specs.Forms.{name_length, name_at, units_of};
+ghost use Rattle.es_source.specs.Characters.{starts_name, continues_name, begins};
+ghost use Rattle.es_source.specs.Forms.{name_length, name_at, units_of};
 ghost use Rattle.script_syntax.specs.Stops.{Scans, Makes, Adds};
 
 use crate::characters::may_continue_name;
 use crate::stop::TokenStop;
-use es_model::TokenKind;
+use es_source::TokenKind;
 use property_keys::{KeyFault, Units};
 use std::alloc::Global;
 

@@ -3,12 +3,12 @@
 ghost use Rattle.std.specs.Prelude.{◌≡◌, ◌<◌, ◌≤◌, ◌+◌, ◌-◌, ◌^◌, ℕ, IfSome, IsTrue, length, take_while, min, option_map};
 ghost use Rattle.std.specs.Char.{digit_value};
 ghost use Rattle.std.specs.Str.Parse.{digits_value};
-ghost use Rattle.es_model.specs.Characters.{is_digit_of, begins};
-ghost use Rattle.es_model.specs.Forms.{base_named, digits_at, number_in, prefixed_number, decimal_number, number_of, number_at, spoils_number};
+ghost use Rattle.es_source.specs.Characters.{is_digit_of, begins};
+ghost use Rattle.es_source.specs.Forms.{base_named, digits_at, number_in, prefixed_number, decimal_number, number_of, number_at, spoils_number};
 ghost use Rattle.script_syntax.specs.Limits.{limited};
 
 use crate::characters::may_start_name;
-use es_model::TokenKind;
+use es_source::TokenKind;
 
 /// The greatest number that a token may have.
 const MOST: u64 = (1 << 53) - 1;

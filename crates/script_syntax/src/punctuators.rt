@@ -1,13 +1,13 @@
 //! Punctuators (ECMA-262, 12.8).
 
 ghost use Rattle.std.specs.Prelude.{◌≡◌, ◌<◌, ◌≤◌, ◌&&◌, [], ℕ, IfOk, length, drop, map, fold, codes, bytes_eq};
-ghost use Rattle.es_model.specs.Characters.{is_digit_of, begins};
-ghost use Rattle.es_model.specs.Forms.{longer_at, longest_punctuator, punctuator_at};
+ghost use Rattle.es_source.specs.Characters.{is_digit_of, begins};
+ghost use Rattle.es_source.specs.Forms.{longer_at, longest_punctuator, punctuator_at};
 ghost use Rattle.script_syntax.specs.Stops.{Scans};
 
 use crate::names::units_of;
 use crate::stop::TokenStop;
-use es_model::TokenKind;
+use es_source::TokenKind;
 use std::alloc::Global;
 
 /// The punctuators.

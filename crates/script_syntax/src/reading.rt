@@ -1,17 +1,16 @@
 //! The tokens of bytes, or their first fault of length, of decoding or of tokens (ECMA-262, clause 12).
 
 ghost use Rattle.std.specs.Prelude.{◌≡◌, ◌<◌, ◌≤◌, ◌+◌, ◌*◌, ◌^◌, ◌++◌, ◌∷◌, [], ℕ, List, IfOk, OnOk, IsUtf8, length, take, chars};
-ghost use Rattle.es_model.specs.Places.{place_after};
-ghost use Rattle.es_model.specs.Reading.{fault_at, reading_of_characters, reading_of};
+ghost use Rattle.es_source.specs.Places.{place_after};
+ghost use Rattle.es_source.specs.Reading.{fault_at, reading_of_characters, reading_of};
 ghost use Rattle.script_syntax.specs.Positions.{position_after};
 ghost use Rattle.script_syntax.specs.Readings.{Reads};
 
 use crate::gaps::hashbang_length;
 use crate::positions::Position;
 use crate::scanning::next_token;
-use crate::stop::ReadStop;
 use crate::token_list::Tokens;
-use es_model::{FaultCode, SourceFault, Token};
+use es_source::{FaultCode, ReadStop, SourceFault, Token};
 use property_keys::NoMemory;
 use std::alloc::Global;
 

@@ -3,8 +3,8 @@
 ghost use Rattle.std.specs.Prelude.{◌≡◌, ◌<◌, ◌≤◌, ◌+◌, ◌*◌, ◌^◌, ◌++◌, ℕ, List, IfOk, IfSome, length};
 ghost use Rattle.std.specs.List.{list_any};
 ghost use Rattle.property_keys.specs.Blanks.{is_line_terminator};
-ghost use Rattle.es_model.specs.Places.{place_after};
-ghost use Rattle.es_model.specs.Reading.{fault_at, next_of};
+ghost use Rattle.es_source.specs.Places.{place_after};
+ghost use Rattle.es_source.specs.Reading.{fault_at, next_of};
 ghost use Rattle.script_syntax.specs.Positions.{position_after};
 ghost use Rattle.script_syntax.specs.Scanning.{step_of, IsStep, EndsAt};
 
@@ -12,8 +12,8 @@ use crate::characters::is_line_terminator;
 use crate::forms::token_at;
 use crate::gaps::gap_of;
 use crate::positions::Position;
-use crate::stop::{ReadStop, TokenStop};
-use es_model::{FaultCode, SourceFault, Token};
+use crate::stop::TokenStop;
+use es_source::{FaultCode, ReadStop, SourceFault, Token};
 use std::alloc::Global;
 
 /// A token, how many characters it takes with the gap before it, and the place after it.

@@ -1,14 +1,14 @@
 //! Texts (ECMA-262, 12.9.4).
 
 ghost use Rattle.std.specs.Prelude.{◌≡◌, ◌<◌, ◌≤◌, ℕ, IfOk, IfSome, IsTrue, length, codes, bytes_eq};
-ghost use Rattle.es_model.specs.Characters.{begins};
-ghost use Rattle.es_model.specs.Texts.{is_quote, units_for, text_from, text_at};
+ghost use Rattle.es_source.specs.Characters.{begins};
+ghost use Rattle.es_source.specs.Texts.{is_quote, units_for, text_from, text_at};
 ghost use Rattle.script_syntax.specs.Stops.{Scans, Adds, ScansText};
 
 use crate::escapes::part_at;
 use crate::names::push_point;
 use crate::stop::TokenStop;
-use es_model::TokenKind;
+use es_source::TokenKind;
 use property_keys::Units;
 use std::alloc::Global;
 

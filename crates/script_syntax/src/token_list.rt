@@ -2,7 +2,7 @@ ghost use Rattle.std.specs.Prelude.{◌≡◌, ◌<◌, List, length, slice_get,
 ghost use Rattle.script_syntax.specs.Readings.{listed};
 
 use crate::positions::Position;
-use es_model::Token;
+use es_source::Token;
 use std::marker::Model;
 
 /// The tokens of a source in their order, and the place one past its last character. Only `tokens` makes them.
@@ -14,7 +14,7 @@ pub struct Tokens {
 }
 
 impl Model for Tokens {
-    ghost use Rattle.es_model.specs.Reading.{Reading};
+    ghost use Rattle.es_source.specs.Reading.{Reading};
     ghost use Rattle.script_syntax.specs.Readings.{listed};
 
     ghost Value = { Reading };

@@ -6,8 +6,7 @@ use Rattle.property_keys.specs.declared.keys.PropKey.TheVariants.{Name}
 use Rattle.property_keys.specs.declared.values.Value.{Value}
 use Rattle.property_keys.specs.declared.values.Value.TheVariants as value
 use Rattle.descriptors.specs.declared.fields.Descriptor.{Descriptor}
-use Rattle.es_model.specs.declared.answers.Completion.{Completion}
-use Rattle.es_model.specs.declared.answers.Completion.TheVariants.{Normal, Throw}
+use Rattle.es_model.specs.Completions.{Completion, Normal, Throw}
 use Rattle.es_model.specs.declared.answers.Reply.TheVariants as reply
 use Rattle.es_model.specs.declared.kinds.ErrorKind.{ErrorKind}
 use Rattle.es_model.specs.declared.kinds.ErrorKind.TheVariants as error
@@ -18,7 +17,7 @@ use Rattle.es_model.specs.declared.start_texts.StartText.TheVariants as start
 use Rattle.es_model.specs.StartObjects.{object_of}
 use Rattle.es_model.specs.StartTexts.{units_of_start}
 use Rattle.es_model.specs.Events.{OfError}
-use Rattle.es_model.specs.Program.{Program, done, make, intern, define}
+use Rattle.es_model.specs.Program.{Program, done, charge, nest, make, intern, define}
 
 abbrev pub flag : Bool → Completion
 flag b = Normal (reply.Flag b)
@@ -29,6 +28,10 @@ undefined = Normal (reply.Value value.Undefined)
 -- An answer of a kind that its request does not have. No server gives one; the definitions are total all the same.
 abbrev pub unfit : Program
 unfit = done (Throw value.Undefined)
+
+-- a case that is not written yet
+abbrev pub unwritten : Program
+unwritten = done (Throw value.Undefined)
 
 -- a property that is writable, configurable and not enumerable
 abbrev pub hidden : Value → Descriptor
@@ -57,3 +60,7 @@ not_a_function = throw_error error.TypeError (codes "not a function")
 
 abbrev pub not_a_constructor : Program
 not_a_constructor = throw_error error.TypeError (codes "not a constructor")
+
+-- a function, a constructor or a method of a Proxy starts: its turn, and then the test of the nested calls
+abbrev pub entering : Program → Program
+entering body = charge 1 (nest body too_many_calls)

@@ -7,14 +7,17 @@ use property_keys::{Attributes, ObjectId, Value};
 
 pub(crate) struct Row(pub(crate) Step, pub(crate) Seen);
 
+/// How many start objects there are.
+const START: u32 = 28;
+
 /// The objects that are made, in turn.
-const A: ObjectId = ObjectId(28);
+const A: ObjectId = ObjectId(START);
 
-const B: ObjectId = ObjectId(29);
+const B: ObjectId = ObjectId(START + 1);
 
-const C: ObjectId = ObjectId(30);
+const C: ObjectId = ObjectId(START + 2);
 
-const D: ObjectId = ObjectId(31);
+const D: ObjectId = ObjectId(START + 3);
 
 const ON_A: Value = Value::Object(A);
 
@@ -296,7 +299,7 @@ pub(crate) static SETTER_CHANGES_THE_RECEIVER: [Row; 7] = [
         Seen::AsksCallWith(CALLED, ON_B, EIGHT),
     ),
     Row(Step::Define(B, READONLY_FIVE), Seen::Flag(true)),
-    Row(Step::Answer(Given::Flag(false)), Seen::Flag(true)),
+    Row(Step::Answer(Given::Value(SEVEN)), Seen::Flag(true)),
     Row(Step::Own(B), Seen::Property(Some(STORED_READONLY_FIVE))),
 ];
 

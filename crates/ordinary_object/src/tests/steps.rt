@@ -50,6 +50,7 @@ pub(crate) enum Question {
 /// An answer to what the frame that waits has asked.
 #[derive(Clone, Copy)]
 pub(crate) enum Given {
+    Value(Value),
     Flag(bool),
     Property(Option<Complete>),
     /// the property that the object has when the answer is given
@@ -123,6 +124,7 @@ fn answered(
 
 fn completion_of(heap: &Heap, given: Given) -> Completion {
     match given {
+        Given::Value(value) => Completion::Normal(Reply::Value(value)),
         Given::Flag(flag) => Completion::Normal(Reply::Flag(flag)),
         Given::Property(property) => Completion::Normal(Reply::Property(property)),
         Given::OwnOf(object) => Completion::Normal(Reply::Property(own_of(heap, object))),

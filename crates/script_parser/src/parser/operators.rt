@@ -3,7 +3,7 @@
 ghost use Rattle.std.specs.Prelude.{◌≡◌};
 ghost use Rattle.script_grammar.specs.Kinds.{is_word, is_key, prefix_of, level_of, infix_of, is_in};
 
-use es_model::{BinaryOperator, ShortOperator, UnaryOperator};
+use es_tree::{BinaryOperator, ShortOperator, UnaryOperator};
 use script_grammar::{Kind, Level, Mark, Pair, Word};
 
 /// Whether it is a word, also a reserved one.

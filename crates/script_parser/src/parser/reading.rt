@@ -8,7 +8,7 @@ ghost use Rattle.script_parser.specs.Progress.{ReadsOne, EndsWith, root_of};
 
 use super::Parser;
 use crate::kinds::kind_of;
-use es_model::Token;
+use es_source::Token;
 use property_keys::NoMemory;
 use script_grammar::{Bracket, Kind, Sign};
 

@@ -5,7 +5,7 @@ ghost use Rattle.script_grammar.specs.Grammar as grammar;
 ghost use Rattle.script_grammar.specs.Machine as m;
 
 use super::operators::{is_in, is_key, level_of};
-use es_model::{AssignOperator, BinaryOperator, ShortOperator};
+use es_tree::{AssignOperator, BinaryOperator, ShortOperator};
 use script_grammar::{
     Bracket, Kind, Level, Listing, Loose, Mark, NameRole, Sign, Tail, Terminal, Word,
 };

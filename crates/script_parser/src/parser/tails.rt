@@ -6,7 +6,7 @@ ghost use Rattle.script_parser.specs.State.{Moves, State, numbers, stack, state}
 
 use super::Parser;
 use super::operators::infix_of;
-use es_model::ShortOperator;
+use es_tree::ShortOperator;
 use property_keys::NoMemory;
 use script_grammar::{
     Act, Bracket, Expected, Kind, Level, Listing, Loose, Mark, Pair, Sign, Stage, Symbol, Tail,

@@ -7,7 +7,7 @@ ghost use Rattle.script_grammar.specs.declared.labels.Atom.TheVariants as atom;
 ghost use Rattle.script_parser.specs.State.{stack, state, ids, built, act_on, head_of, is_target_node, is_plain_node, newest};
 
 use super::Parser;
-use es_model::ShortOperator;
+use es_tree::ShortOperator;
 use property_keys::NoMemory;
 use script_grammar::{Act, Atom, Node, Pair, Quad, Symbol, Triple, Wrap};
 

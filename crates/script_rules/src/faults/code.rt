@@ -1,5 +1,5 @@
 /// The parameters of a function.
-#[derive(Clone, Copy, Debug, PartialEq, Eq)]
+#[derive(Clone, Copy)]
 pub enum Parameters {
     /// A getter has none.
     Nothing,
@@ -10,7 +10,7 @@ pub enum Parameters {
 }
 
 /// A function of any kind: its property name, the name that is bound at it, its own name in its body, its parameters and its body.
-#[derive(Clone, Copy, Debug, PartialEq, Eq)]
+#[derive(Clone, Copy)]
 pub struct Code {
     pub key: Option<u32>,
     pub bound: Option<u32>,

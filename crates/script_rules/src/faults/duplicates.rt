@@ -2,7 +2,7 @@
 
 ghost use Rattle.std.specs.Prelude.{◌≡◌, ◌++◌, drop, flat_map, IfOk, OnOk, true};
 ghost use Rattle.std.specs.Option.{option_to_list};
-ghost use Rattle.es_model.specs.declared.faults.FaultCode.TheVariants as code;
+ghost use Rattle.es_source.specs.declared.faults.FaultCode.TheVariants as code;
 ghost use Rattle.script_rules.specs.Arena.{IsPart, tree_at};
 ghost use Rattle.script_rules.specs.Faults.{clashes, duplicates, fault_where, least, prototype_key, second_prototypes};
 ghost use Rattle.script_rules.specs.Names.{members};
@@ -11,7 +11,7 @@ ghost use Rattle.script_rules.specs.Seen.{clash_with, stronger};
 use super::order::earlier;
 use super::rules::{fault_where, has_text};
 use crate::{Declared, Manner, members, own_units_at, part};
-use es_model::{FaultCode, SourceFault};
+use es_source::{FaultCode, SourceFault};
 use indexmap::IndexMap;
 use property_keys::{NoMemory, Units};
 use script_grammar::{Atom, Node, Pair, Script};

@@ -9,7 +9,7 @@ use super::duplicates::duplicates;
 use super::visits::visit;
 use super::walk::{Task, Walk};
 use crate::{declared_in, script_scope};
-use es_model::SourceFault;
+use es_source::SourceFault;
 use property_keys::NoMemory;
 use script_grammar::Script;
 use std::alloc::Global;

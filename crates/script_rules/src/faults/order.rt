@@ -4,7 +4,7 @@ ghost use Rattle.std.specs.Prelude.{◌≡◌};
 ghost use Rattle.script_rules.specs.Faults.{code_number, is_before};
 ghost use Rattle.script_rules.specs.Order.{earlier};
 
-use es_model::{FaultCode, SourceFault};
+use es_source::{FaultCode, SourceFault};
 
 /// The number of a code.
 fn code_number(code: FaultCode) -> u8

@@ -1,7 +1,7 @@
 //! The steps of a visit to a part.
 
 ghost use Rattle.std.specs.Prelude.{◌≡◌, ◌<◌, List, length, IfOk, OnOk};
-ghost use Rattle.es_model.specs.declared.faults.SourceFault.{SourceFault};
+ghost use Rattle.es_source.specs.declared.faults.SourceFault.{SourceFault};
 ghost use Rattle.script_rules.specs.Arena.{IsPart, tree_at};
 ghost use Rattle.script_rules.specs.Faults.{faults, least};
 ghost use Rattle.script_rules.specs.Visits.{IsOptionalPart, OpensScope, around_in, optional_faults, optional_size};
@@ -9,7 +9,7 @@ ghost use Rattle.script_rules.specs.Walks.{IsReady, Visits, size_at};
 
 use super::walk::{Task, Walk};
 use crate::{Scope, ScopeId};
-use es_model::SourceFault;
+use es_source::SourceFault;
 use property_keys::NoMemory;
 use script_grammar::Script;
 

@@ -1,7 +1,7 @@
 //! The visit to one part: its own faults are noted, and its parts are put off with what stands around them.
 
 ghost use Rattle.std.specs.Prelude.{◌≡◌, ◌<◌, ◌+◌, ◌++◌, List, length, IfOk, OnOk};
-ghost use Rattle.es_model.specs.declared.faults.SourceFault.{SourceFault};
+ghost use Rattle.es_source.specs.declared.faults.SourceFault.{SourceFault};
 ghost use Rattle.script_grammar.specs.Tree.{Tree as tree};
 ghost use Rattle.script_grammar.specs.declared.labels.Wrap.TheVariants as wrap;
 ghost use Rattle.script_grammar.specs.declared.labels.Quad.TheVariants as quad;
@@ -23,7 +23,7 @@ use crate::{
     Declared, Manner, ScopeId, Scopes, declared_by, declared_in, declared_in_block, function_scope,
     parameters_in, part, part_scope,
 };
-use es_model::SourceFault;
+use es_source::SourceFault;
 use property_keys::NoMemory;
 use script_grammar::{Atom, Node, Pair, Quad, Script, Triple, Wrap};
 use std::alloc::Global;

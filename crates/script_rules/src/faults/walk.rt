@@ -6,12 +6,12 @@ ghost use Rattle.script_rules.specs.Walks.{Opens, Pushes, Reports, Starts, Takes
 
 use super::order::earlier;
 use crate::{Scope, ScopeId, Scopes};
-use es_model::SourceFault;
+use es_source::SourceFault;
 use property_keys::NoMemory;
 use std::alloc::Global;
 
 /// A part that is to be visited, with its scope and whether a loop of the same function is around it.
-#[derive(Clone, Copy, Debug, PartialEq, Eq)]
+#[derive(Clone, Copy)]
 pub struct Task {
     pub node: u32,
     pub scope: ScopeId,

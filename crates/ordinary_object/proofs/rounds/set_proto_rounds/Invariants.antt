@@ -1,7 +1,7 @@
 use Rattle.std.proofs.Common.{◌≡◌, suc, length}
 use Rattle.es_model.specs.World.{World}
 use Rattle.es_model.specs.Stages.{stage_of}
-use Rattle.es_model.specs.programs.Ordinary.{set_proto_round}
+use Rattle.ordinary_object.specs.Ordinary.{set_proto_round}
 use Rattle.object_heap.specs.Retains.{Retains}
 use Rattle.object_heap.specs.Stands.{StandsFor, Goes}
 use Rattle.ordinary_object.proofs.rounds.set_proto_rounds.Given as goal

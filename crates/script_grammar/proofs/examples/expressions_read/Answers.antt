@@ -3,7 +3,7 @@ use Rattle.ucd_derived.specs.Binary.{is_xid_start, is_xid_continue}
 use Rattle.ucd_derived.specs.XidStartRanges.{xid_start_ranges}
 use Rattle.ucd_derived.specs.XidContinueRanges.{xid_continue_ranges}
 use Rattle.ucd_table.specs.Rows.{in_ranges}
-use Rattle.es_model.specs.Forms.{longest_punctuator}
+use Rattle.es_source.specs.Forms.{longest_punctuator}
 use Rattle.script_grammar.specs.Kinds.{words, punctuators}
 use Rattle.script_grammar.proofs.Decide.{accepts}
 use Rattle.script_grammar.proofs.examples.expressions_read.Goals as goal

@@ -1,5 +1,5 @@
 use Rattle.std.proofs.Common.{◌∙◌, ◌≤◌, length, sym, ap, Some, arith}
-use Rattle.es_model.specs.declared.place.Place.{Place}
+use Rattle.es_source.specs.declared.place.Place.{Place}
 use Rattle.script_host.proofs.Unfit.{fit_next, unfit_here, unfit_none}
 use Rattle.script_host.proofs.unfinished.unfit_below.Goals as goal
 

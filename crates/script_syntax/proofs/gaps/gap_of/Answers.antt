@@ -1,5 +1,5 @@
 use Rattle.std.proofs.Common.{arith, ◌≡◌, ◌<◌, ◌≤◌, ◌∙◌, Some, drop, length, length-drop, sym, ap}
-use Rattle.es_model.specs.Gaps.{separator_length}
+use Rattle.es_source.specs.Gaps.{separator_length}
 use Rattle.script_syntax.proofs.Separators.{gap_goes}
 use Rattle.script_syntax.proofs.gaps.gap_of.Goals as goal
 

@@ -1,5 +1,5 @@
 use Rattle.std.proofs.Common.{◌≡◌, ◌≤◌, ◌-◌, length, drop}
-use Rattle.es_model.specs.Gaps.{gap_from, gap_of}
+use Rattle.es_source.specs.Gaps.{gap_from, gap_of}
 use Rattle.script_syntax.proofs.Separators.{shifted}
 use Rattle.script_syntax.proofs.gaps.gap_of.Given as goal
 

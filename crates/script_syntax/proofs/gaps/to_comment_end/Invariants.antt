@@ -1,5 +1,5 @@
 use Rattle.std.proofs.Common.{◌≡◌, drop}
-use Rattle.es_model.specs.Gaps.{to_comment_end}
+use Rattle.es_source.specs.Gaps.{to_comment_end}
 use Rattle.script_syntax.proofs.Separators.{later_by}
 use Rattle.script_syntax.proofs.gaps.to_comment_end.Given as goal
 

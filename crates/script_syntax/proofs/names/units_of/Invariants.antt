@@ -1,5 +1,5 @@
 use Rattle.std.proofs.Common.{◌≡◌, take}
-use Rattle.es_model.specs.Forms.{units_of}
+use Rattle.es_source.specs.Forms.{units_of}
 use Rattle.script_syntax.proofs.names.units_of.Given as goal
 
 abbrev pub invariant-loop-character : goal.invariant-loop-character

@@ -1,5 +1,5 @@
 use Rattle.std.proofs.Common.{◌∙◌}
-use Rattle.es_model.specs.Characters.{is_digit_of}
+use Rattle.es_source.specs.Characters.{is_digit_of}
 use Rattle.script_syntax.proofs.Digits.{take_run}
 use Rattle.script_syntax.proofs.numbers.digits_at.Goals as goal
 

@@ -1,6 +1,6 @@
 use Rattle.std.proofs.Common.{◌∙◌, ◌+◌, List, ℕ, drop, map, ap}
 use Rattle.std.specs.Prelude.{fold}
-use Rattle.es_model.specs.Forms.{longer_at}
+use Rattle.es_source.specs.Forms.{longer_at}
 use Rattle.script_syntax.proofs.Tables.{fold_next}
 use Rattle.script_syntax.proofs.punctuators.longest_of.Goals as goal
 

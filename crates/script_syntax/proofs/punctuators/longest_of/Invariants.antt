@@ -1,6 +1,6 @@
 use Rattle.std.proofs.Common.{◌≡◌, ◌≤◌, [], length, map, drop}
 use Rattle.std.specs.Prelude.{fold}
-use Rattle.es_model.specs.Forms.{longer_at}
+use Rattle.es_source.specs.Forms.{longer_at}
 use Rattle.script_syntax.proofs.punctuators.longest_of.Given as goal
 
 abbrev pub invariant-loop-next : goal.invariant-loop-next

@@ -1,6 +1,6 @@
 use Rattle.std.proofs.Common.{◌∙◌, [], List, ℕ, Bor, ap, map}
 use Rattle.std.specs.Prelude.{fold}
-use Rattle.es_model.specs.Forms.{longer_at, longest_punctuator}
+use Rattle.es_source.specs.Forms.{longer_at, longest_punctuator}
 use Rattle.script_syntax.proofs.punctuators.longest_punctuator.Goals as goal
 
 pub returns-clause-value : goal.returns-clause-value

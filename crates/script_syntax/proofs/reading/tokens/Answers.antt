@@ -1,8 +1,8 @@
 use Rattle.std.proofs.Common.{arith, ◌≡◌, ◌≤◌, ◌∙◌, ◌^◌, ℕ, Result, Err, chars, length, take, sym, ap, subst}
-use Rattle.es_model.specs.Reading.{Reading, reading_of_characters}
-use Rattle.es_model.specs.declared.faults.SourceFault.{SourceFault}
+use Rattle.es_source.specs.Reading.{Reading, reading_of_characters}
+use Rattle.es_source.specs.declared.faults.SourceFault.{SourceFault}
 use Rattle.script_syntax.specs.Readings.{Reads}
-use Rattle.es_model.proofs.Phases.{too_long, decoded, not_decoded}
+use Rattle.es_source.proofs.Phases.{too_long, decoded, not_decoded}
 use Rattle.script_syntax.proofs.reading.tokens.Goals as goal
 
 pub returns-then-bytes-gt-MOST_BYTES : goal.returns-then-bytes-gt-MOST_BYTES

@@ -1,6 +1,6 @@
 use Rattle.std.proofs.Common.{◌∙◌, [], ◌+◌, true, false, Ok, List, sym, ap, take, subst}
-use Rattle.es_model.specs.Reading.{Reading}
-use Rattle.es_model.specs.declared.token.Token.{Token}
+use Rattle.es_source.specs.Reading.{Reading}
+use Rattle.es_source.specs.declared.token.Token.{Token}
 use Rattle.script_syntax.specs.Positions.{position_after}
 use Rattle.script_syntax.proofs.Bounds.{Fitting, fitting}
 use Rattle.script_syntax.proofs.Steps.{Reached, reached_start, said_next, said_end, said_place, reached_stop}

@@ -3,7 +3,7 @@ use Rattle.std.proofs.lemmas.Bool.{ne_eqb}
 use Rattle.std.proofs.lemmas.List.{get_or_read}
 use Rattle.std.proofs.lemmas.Result.{err_from_is_err_and}
 use Rattle.script_syntax.proofs.Parts.{PartHere, text_goes, text_stops}
-use Rattle.es_model.specs.Texts.{part_at}
+use Rattle.es_source.specs.Texts.{part_at}
 use Rattle.script_syntax.proofs.texts.text_from.Goals as goal
 use Rattle.script_syntax.proofs.texts.text_from.Goals.{In-Some}
 

@@ -1,5 +1,5 @@
 use Rattle.std.proofs.Common.{◌≡◌, ◌≤◌, ◌-◌, length, drop}
-use Rattle.es_model.specs.Texts.{text_from}
+use Rattle.es_source.specs.Texts.{text_from}
 use Rattle.script_syntax.proofs.Parts.{after_front}
 use Rattle.script_syntax.proofs.texts.text_from.Given as goal
 

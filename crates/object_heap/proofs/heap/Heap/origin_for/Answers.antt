@@ -17,7 +17,7 @@ pub returns-clause-kind : goal.returns-clause-kind
 returns-clause-kind c = origin-there c.self.inside.origins c.number.new.self c.args.kind c.in_ok-id.id c.in_ok-id.ensures.number c.in_ok-id.ensures.ok
 
 pub returns-clause-ok : goal.returns-clause-ok
-returns-clause-ok c = goes-same _ _ (ap (λ (v : HeapView). v.objects) c.self.view_is) (ap beside c.self.view_is)
+returns-clause-ok c = λ w h places. goes-same _ _ (ap (λ (v : HeapView). v.objects) c.self.view_is) (ap beside c.self.view_is) w h
 
 pub returns-clause-retains : goal.returns-clause-retains
 returns-clause-retains c = retains-origin _ _ c.args.kind (by_origins (λ ks. with_origin ks c.args.kind) c.self.view_is c.in_ok-id.ensures.ok)

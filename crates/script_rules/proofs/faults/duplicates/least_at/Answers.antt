@@ -1,5 +1,5 @@
 use Rattle.std.proofs.Common.{arith, true, refl}
-use Rattle.es_model.specs.declared.faults.FaultCode.TheVariants as code
+use Rattle.es_source.specs.declared.faults.FaultCode.TheVariants as code
 use Rattle.script_rules.specs.Faults.{fault_where}
 use Rattle.script_rules.proofs.Seen.{next_found}
 use Rattle.script_rules.proofs.faults.duplicates.least_at.Goals as goal

@@ -1,5 +1,5 @@
 use Rattle.std.proofs.Common.{◌≡◌, drop, flat_map, true}
-use Rattle.es_model.specs.declared.faults.FaultCode.TheVariants as code
+use Rattle.es_source.specs.declared.faults.FaultCode.TheVariants as code
 use Rattle.script_rules.specs.Faults.{fault_where, least}
 use Rattle.script_rules.specs.Order.{earlier}
 use Rattle.script_rules.proofs.faults.duplicates.least_at.Given as goal

@@ -1,5 +1,0 @@
-use Rattle.es_model.proofs.Longest.{gaps_are_longest}
-use Rattle.es_model.proofs.laws.gaps_are_longest.Goals as goal
-
-pub returns : goal.returns
-returns c = gaps_are_longest

@@ -1,0 +1,129 @@
+-- Every algorithm keeps worlds sound.
+use Rattle.std.proofs.Common.{◌≡◌, true, Option, Some, None, List, refl, sym, subst, arith}
+use Rattle.std.specs.Prelude.{codes}
+use Rattle.property_keys.specs.declared.identifiers.ObjectId.{ObjectId}
+use Rattle.property_keys.specs.declared.keys.PropKey.{PropKey}
+use Rattle.property_keys.specs.declared.values.Value.{Value}
+use Rattle.property_keys.specs.declared.values.Value.TheVariants as value
+use Rattle.es_tree.specs.declared.numbers.SiteId.{SiteId}
+use Rattle.es_model.specs.declared.kinds.ErrorKind.TheVariants as error
+use Rattle.es_model.specs.declared.kinds.ObjectKind.{ObjectKind}
+use Rattle.es_model.specs.declared.kinds.ObjectKind.TheVariants as kind_of
+use Rattle.es_model.specs.declared.requests.Request.{Request}
+use Rattle.es_model.specs.declared.requests.Request.TheVariants.{GetOwn, Define, Has, Read, Write, Delete, Keys, Proto, SetProto, Extensible, Prevent, Call, Construct, Work, Print}
+use Rattle.es_model.specs.Events.{Way, Reads, Writes, class_of}
+use Rattle.es_model.specs.Fits.{IsKnownRequest, object_in}
+use Rattle.es_model.specs.Grows.{Grows}
+use Rattle.es_model.specs.World.{World, kind}
+use Rattle.es_model.specs.Changes.{Accessing, changed, charged}
+use Rattle.es_model.specs.Program.{Program, change, Of, Evaluating, Statements, Round}
+use Rattle.es_model.specs.Known.{IfThere}
+use Rattle.es_model.specs.Sound.{IsSound}
+use Rattle.es_model.specs.Kept.{FitsTask, IsKept, KeepsEachBy}
+use Rattle.es_model.specs.programs.Errors.{entering, unwritten, not_a_function, not_a_constructor}
+use Rattle.es_model.proofs.Growing.{grows_none, grows-changed}
+use Rattle.es_model.proofs.KnownLater.{object-later, key-later, known-later}
+use Rattle.es_model.proofs.SoundReads.{sound-charged}
+use Rattle.es_model.proofs.SoundChanges.{sound-accessing}
+use Rattle.es_model.proofs.SoundErrors.{kept-if, error-kept}
+use Rattle.ordinary_object.specs.Ordinary.{ordinary_program}
+use Rattle.ordinary_object.specs.Serving.{is_ordinary}
+use Rattle.ordinary_object.proofs.Kept.{ordinary_kept}
+use Rattle.evaluator.proofs.TasksKept.{node-kept, statements-kept, round-kept}
+use Rattle.es_serve.specs.Serve.{method_of, method_program, is_counted, noting, call_of, call_program, construct_of, request_program, program_of}
+
+entering-kept : (q : Request) (w : World) → IsSound w → IsKept (FitsTask (Of q)) (entering unwritten) w
+entering-kept q w s =
+    let s1 = sound-charged w 1 s in
+    (s.intact, ((s1, tt), error-kept (Of q) (charged w 1) error.RangeError (codes "too many nested calls") s1 (omega arith)))
+
+no_function-kept : (q : Request) (w : World) → IsSound w → IsKept (FitsTask (Of q)) not_a_function w
+no_function-kept q w s = error-kept (Of q) w error.TypeError (codes "not a function") s (omega arith)
+
+no_constructor-kept : (q : Request) (w : World) → IsSound w → IsKept (FitsTask (Of q)) not_a_constructor w
+no_constructor-kept q w s = error-kept (Of q) w error.TypeError (codes "not a constructor") s (omega arith)
+
+-- the method of an object of a kind, where the ordinary methods are kept for the kinds that have them
+method-kept : (q : Request) (w : World) (k : ObjectKind) → IsSound w → (is_ordinary k ≡ true → IsKept (FitsTask (Of q)) (ordinary_program q) w) → IsKept (FitsTask (Of q)) (method_of k q) w
+method-kept q w kind_of.Ordinary s h = h refl
+method-kept q w (kind_of.Function function constructor strict) s h = h refl
+method-kept q w (kind_of.Builtin row constructor proxy) s h = h refl
+method-kept q w kind_of.Array s h = h refl
+method-kept q w (kind_of.Text t) s h = h refl
+method-kept q w (kind_of.Wrapper v) s h = h refl
+method-kept q w (kind_of.Arguments cells) s h = (s, tt)
+method-kept q w kind_of.Error s h = h refl
+method-kept q w (kind_of.Proxy target handler callable constructor) s h = entering-kept q w s
+
+noting-kept : (q : Request) (w : World) (site : Option SiteId) (way : Way) (o : ObjectId) (k : PropKey) (r : Value) (p : Program) → IsSound w →
+    ((v : World) → IsSound v → Grows w.lists v.lists → IsKept (FitsTask (Of q)) p v) → IsKept (FitsTask (Of q)) (noting site way o k r p) w
+noting-kept q w None way o k r p s f = f w s (grows_none w.lists)
+noting-kept q w (Some site) way o k r p s f =
+    kept-if (FitsTask (Of q)) w (is_counted (kind w.lists o) o k r) (change (Accessing site way o k) p) p
+    (f (changed (Accessing site way o k) w) (sound-accessing w site way o k s) (grows-changed (Accessing site way o k) w)) (f w s (grows_none w.lists))
+
+call_of-kept : (q : Request) (w : World) (k : ObjectKind) (f : ObjectId) (this : Value) (arguments : List Value) → IsSound w → IsKept (FitsTask (Of q)) (call_of w.script k f this arguments) w
+call_of-kept q w kind_of.Ordinary f this arguments s = no_function-kept q w s
+call_of-kept q w (kind_of.Function function constructor strict) f this arguments s = entering-kept q w s
+call_of-kept q w (kind_of.Builtin row constructor proxy) f this arguments s = entering-kept q w s
+call_of-kept q w kind_of.Array f this arguments s = no_function-kept q w s
+call_of-kept q w (kind_of.Text t) f this arguments s = no_function-kept q w s
+call_of-kept q w (kind_of.Wrapper v) f this arguments s = no_function-kept q w s
+call_of-kept q w (kind_of.Arguments cells) f this arguments s = no_function-kept q w s
+call_of-kept q w kind_of.Error f this arguments s = no_function-kept q w s
+call_of-kept q w (kind_of.Proxy target handler callable constructor) f this arguments s = kept-if (FitsTask (Of q)) w callable _ _ (entering-kept q w s) (no_function-kept q w s)
+
+call-kept : (q : Request) (w : World) (f this : Value) (arguments : List Value) → IsSound w → IsKept (FitsTask (Of q)) (call_program w.script f this arguments) w
+call-kept q w (value.Object o) this arguments s = call_of-kept q w (kind w.lists o) o this arguments s
+call-kept q w value.Undefined this arguments s = no_function-kept q w s
+call-kept q w value.Null this arguments s = no_function-kept q w s
+call-kept q w (value.Bool b) this arguments s = no_function-kept q w s
+call-kept q w (value.Whole n) this arguments s = no_function-kept q w s
+call-kept q w (value.Text t) this arguments s = no_function-kept q w s
+call-kept q w (value.Symbol y) this arguments s = no_function-kept q w s
+
+construct_of-kept : (q : Request) (w : World) (k : ObjectKind) (f : ObjectId) (arguments : List Value) (target : ObjectId) → IsSound w → IsKept (FitsTask (Of q)) (construct_of w.script k f arguments target) w
+construct_of-kept q w kind_of.Ordinary f arguments target s = no_constructor-kept q w s
+construct_of-kept q w (kind_of.Function function constructor strict) f arguments target s = kept-if (FitsTask (Of q)) w constructor _ _ (entering-kept q w s) (no_constructor-kept q w s)
+construct_of-kept q w (kind_of.Builtin row constructor proxy) f arguments target s = kept-if (FitsTask (Of q)) w constructor _ _ (entering-kept q w s) (no_constructor-kept q w s)
+construct_of-kept q w kind_of.Array f arguments target s = no_constructor-kept q w s
+construct_of-kept q w (kind_of.Text t) f arguments target s = no_constructor-kept q w s
+construct_of-kept q w (kind_of.Wrapper v) f arguments target s = no_constructor-kept q w s
+construct_of-kept q w (kind_of.Arguments cells) f arguments target s = no_constructor-kept q w s
+construct_of-kept q w kind_of.Error f arguments target s = no_constructor-kept q w s
+construct_of-kept q w (kind_of.Proxy t handler callable constructor) f arguments target s = kept-if (FitsTask (Of q)) w constructor _ _ (entering-kept q w s) (no_constructor-kept q w s)
+
+-- ---- every request
+
+object-kept : (q : Request) (w : World) (o : ObjectId) → IsSound w → IsKnownRequest w.lists q → object_in q ≡ Some o → IsKept (FitsTask (Of q)) (method_program o q) w
+object-kept q w o s h e =
+    method-kept q w (kind w.lists o) s (λ ordinary. ordinary_kept q w s h (subst (λ x. IfThere (λ (a : ObjectId). is_ordinary (kind w.lists a) ≡ true) x) (sym e) ordinary))
+
+request-kept : (q : Request) (w : World) → IsSound w → IsKnownRequest w.lists q → IsKept (FitsTask (Of q)) (request_program w.script q) w
+request-kept (GetOwn o k) w s h = object-kept (GetOwn o k) w o s h refl
+request-kept (Define o k d) w s h = object-kept (Define o k d) w o s h refl
+request-kept (Has o k) w s h = object-kept (Has o k) w o s h refl
+request-kept (Read o k r site) w s h =
+    noting-kept (Read o k r site) w site Reads o k r _ s (λ v sv g.
+    object-kept (Read o k r site) v o sv (object-later w.lists v.lists g o h.0, key-later w.lists v.lists g k h.1, known-later w.lists v.lists g r h.2) refl)
+request-kept (Write o k x r site) w s h =
+    noting-kept (Write o k x r site) w site (Writes (class_of x)) o k r _ s (λ v sv g.
+    object-kept (Write o k x r site) v o sv (object-later w.lists v.lists g o h.0, key-later w.lists v.lists g k h.1, known-later w.lists v.lists g x h.2, known-later w.lists v.lists g r h.3) refl)
+request-kept (Delete o k) w s h = object-kept (Delete o k) w o s h refl
+request-kept (Keys o) w s h = object-kept (Keys o) w o s h refl
+request-kept (Proto o) w s h = object-kept (Proto o) w o s h refl
+request-kept (SetProto o p) w s h = object-kept (SetProto o p) w o s h refl
+request-kept (Extensible o) w s h = object-kept (Extensible o) w o s h refl
+request-kept (Prevent o) w s h = object-kept (Prevent o) w o s h refl
+request-kept (Call f this arguments) w s h = call-kept (Call f this arguments) w f this arguments s
+request-kept (Construct f arguments target) w s h = construct_of-kept (Construct f arguments target) w (kind w.lists f) f arguments target s
+request-kept (Work operation operands) w s h = (s, tt)
+request-kept (Print line) w s h = (s, tt)
+
+-- ---- every task, one line for each crate
+
+pub each-kept : KeepsEachBy program_of
+each-kept (Of q) w s h = request-kept q w s h
+each-kept (Evaluating body cells name n) w s h = node-kept w body cells name n s
+each-kept (Statements body cells list i) w s h = statements-kept w body cells list i s
+each-kept (Round body cells n) w s h = round-kept w body cells n s

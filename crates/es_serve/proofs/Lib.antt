@@ -1,0 +1,3 @@
+pub mod KeptAll
+pub mod Within
+pub mod Models

@@ -1,0 +1,7 @@
+pub mod Characters
+pub mod Forms
+pub mod Gaps
+pub mod Laws
+pub mod Places
+pub mod Reading
+pub mod Texts

@@ -1,0 +1,2 @@
+pub mod TasksKept
+pub mod TasksWithin
