@@ -1,5 +1,14 @@
-//! The maps of objects: the types of their numbers.
+//! The maps of objects. A map says which names an object has, in order, with their flags and representations.
+//! Maps along a chain share one array of entries, and no call changes the entries of a map that is there.
 #![tactic(auto)]
+
+mod arrays;
+mod entries;
+mod finding;
+mod maps;
+
+pub use entries::{Entry, Kind, Representation};
+pub use maps::Maps;
 
 /// The number of a map.
 #[derive(Clone, Copy, Debug, PartialEq, Eq)]
@@ -10,16 +19,4 @@ pub struct MapId(pub u32);
 pub struct OriginId(pub u32);
 
 #[cfg(test)]
-mod tests {
-    use super::*;
-    use std::test::Fail;
-
-    #[test]
-    fn numbers_are_compared(rt: HostRuntime) -> Result<(), Fail> {
-        assert_eq!(rt; MapId(7), MapId(7));
-        assert!(rt; MapId(7) != MapId(6));
-        assert_eq!(rt; OriginId(0), OriginId(0));
-        assert!(rt; OriginId(0) != OriginId(1));
-        Ok(())
-    }
-}
+mod tests;

@@ -1,5 +1,9 @@
-//! The origins of objects: their types.
+//! The origins of objects, and the slack of each: how many places its objects have for fields, until enough were constructed.
 #![tactic(auto)]
+
+mod origins;
+
+pub use origins::Origins;
 
 /// Where a literal or a function begins in the script: its line and its column, both from 1.
 #[derive(Clone, Copy, Debug, PartialEq, Eq)]
@@ -25,18 +29,4 @@ pub enum OriginKind {
 }
 
 #[cfg(test)]
-mod tests {
-    use super::*;
-    use std::test::Fail;
-
-    #[test]
-    fn kinds_are_compared(rt: HostRuntime) -> Result<(), Fail> {
-        let place = LiteralPlace { line: 3, column: 9 };
-        let below = LiteralPlace { line: 4, column: 9 };
-        assert_eq!(rt; OriginKind::Literal(place), OriginKind::Literal(place));
-        assert!(rt; OriginKind::Literal(place) != OriginKind::Literal(below));
-        assert!(rt; OriginKind::Literal(place) != OriginKind::Constructor(place));
-        assert!(rt; OriginKind::Plain != OriginKind::Error);
-        Ok(())
-    }
-}
+mod tests;

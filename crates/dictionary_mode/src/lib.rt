@@ -1,0 +1,9 @@
+//! Objects whose properties are looked up by name and not by a map: an ordered list of distinct keys with properties.
+#![tactic(auto)]
+
+mod dictionary;
+
+pub use dictionary::Dictionary;
+
+#[cfg(test)]
+mod tests;

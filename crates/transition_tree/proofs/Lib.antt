@@ -1,0 +1,3 @@
+pub mod EdgeEq
+pub mod Stepping
+pub mod Table
