@@ -1,4 +1,4 @@
-let o = {};
-o.a = 7;
-print(o.a);
-print(o.b);
+// one object
+let o = {}
+o.a = 7 // no semicolon
+print(o.a); print(o.b)

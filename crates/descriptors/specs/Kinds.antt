@@ -34,6 +34,6 @@ is_function_field (Some other) = false
 abbrev pub has_functions : Descriptor → Bool
 has_functions wanted = is_function_field wanted.get && is_function_field wanted.set
 
--- what every descriptor meets that is asked for: its functions are functions, and it is not of both kinds
+-- its functions are functions, and it is not of both kinds: so is each descriptor that ToPropertyDescriptor gives (6.2.6.5). The definitions here speak of all
 abbrev pub is_sound : Descriptor → Bool
 is_sound wanted = has_functions wanted && not (is_of_both_kinds wanted)

@@ -1,3 +1,5 @@
+//! CompletePropertyDescriptor (6.2.6.6), and the descriptor of a property (6.2.6.4).
+
 ghost use Rattle.std.specs.Prelude.{◌≡◌, IsTrue};
 ghost use Rattle.descriptors.specs.Kinds.{is_sound};
 ghost use Rattle.descriptors.specs.Completion as completion;

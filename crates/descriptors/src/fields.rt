@@ -1,3 +1,5 @@
+//! Property descriptors with fields that may be absent (6.2.6).
+
 ghost use Rattle.std.specs.Prelude.{◌≡◌, IsTrue};
 ghost use Rattle.descriptors.specs.Kinds.{has_functions, is_of_both_kinds};
 
@@ -5,7 +7,7 @@ use property_keys::Value;
 
 /// What is wanted of a property: each field may be absent (ECMA-262, 6.2.6).
 ///
-/// `get` and `set`, where they are present, are Undefined or an Object.
+/// In a sound one `get` and `set`, where they are present, are Undefined or an Object, and it is not mixed ([`is_mixed`]). Requests and answers have no other.
 #[derive(Clone, Copy, Debug, Default, PartialEq, Eq)]
 pub struct Descriptor {
     pub value: Option<Value>,
@@ -46,7 +48,7 @@ impl Descriptor {
 
 /// Whether a field of `value`, `writable` and a field of `get`, `set` are both present (ECMA-262, 6.2.6.5).
 ///
-/// No property is of both kinds, so every other call with a descriptor needs this to be false.
+/// No property is of both kinds, so ToPropertyDescriptor throws where this is true. The other calls answer for such a descriptor too, as their definitions do.
 pub fn is_mixed(wanted: &Descriptor) -> bool
     requires { IsTrue (has_functions wanted.now) }
     ensures { result ≡ is_of_both_kinds wanted.now }

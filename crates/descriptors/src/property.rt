@@ -1,3 +1,5 @@
+//! A property with all of its fields.
+
 ghost use Rattle.std.specs.Prelude.{◌≡◌};
 
 use property_keys::{Attributes, ObjectId, Value};

@@ -1,3 +1,5 @@
+//! Where ValidateAndApplyPropertyDescriptor (10.1.6.3) refuses.
+
 ghost use Rattle.std.specs.Prelude.{◌≡◌, ◌||◌, false, unwrap_or};
 ghost use Rattle.std.specs.Bool.{beq};
 ghost use Rattle.property_keys.specs.Values.{same_value};

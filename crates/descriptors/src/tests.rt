@@ -1,3 +1,5 @@
+//! Tables of definitions and what becomes of them.
+
 ghost use Rattle.std.specs.Prelude.{◌≡◌};
 ghost use Rattle.descriptors.specs.Kinds.{is_function_field};
 

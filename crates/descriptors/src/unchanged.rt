@@ -1,3 +1,5 @@
+//! Whether each field that is wanted is there already (10.1.6.3).
+
 ghost use Rattle.std.specs.Prelude.{◌≡◌};
 ghost use Rattle.std.specs.Bool.{beq};
 ghost use Rattle.property_keys.specs.Values.{same_value};

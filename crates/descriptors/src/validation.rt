@@ -1,3 +1,5 @@
+//! ValidateAndApplyPropertyDescriptor (10.1.6.3), as a verdict.
+
 ghost use Rattle.std.specs.Prelude.{◌≡◌, option_copied};
 ghost use Rattle.descriptors.specs.Validation.{change_of, verdict_of, is_allowed};
 

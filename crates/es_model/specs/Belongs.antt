@@ -1,5 +1,5 @@
--- Which frames belong to the lists of a world: all that a frame keeps is there, each object with the kind that its algorithm has found. A crate of frames lists what
--- each of its frames keeps, and says `Belongs names_of l frame`.
+-- Which frames belong to the lists of a world: all that a frame keeps is there, each object with the kind that its algorithm has found. A crate of
+-- frames lists what each of its frames keeps, and says `Belongs names_of l frame`.
 use Rattle.std.specs.Prelude.{ℕ, Bool, IsTrue, List, ◌<◌, length}
 use Rattle.std.specs.List.{AllByRecursion}
 use Rattle.property_keys.specs.declared.identifiers.ObjectId.{ObjectId}

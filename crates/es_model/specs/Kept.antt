@@ -1,5 +1,5 @@
--- Programs that keep worlds sound: at each question and at their end the world is sound, and what they ask and answer names what is there. At a halt the world is
--- intact.
+-- Programs that keep worlds sound: at each question and at their end the world is sound, and what they ask and answer names what is there. At a halt
+-- the world is intact.
 use Rattle.std.specs.Prelude.{◌≡◌, ◌<◌, ℕ, List, length}
 use Rattle.std.specs.List.{AllByRecursion}
 use Rattle.es_tree.specs.declared.numbers.FunctionNo.{FunctionNo}
@@ -67,6 +67,7 @@ IsKeptOutcome P w (Halt v n) = IsIntact v.lists × IsLater w v
 abbrev pub KeepsSound : Server → Type 0
 KeepsSound S = (n : ℕ) (t : Task) (w : World) → IsSound w → IsKnownTask w.script w.lists t → IsKeptOutcome (FitsTask t) w (S n t w)
 
--- The program of every known task keeps worlds sound: at each question the world is sound and the question known, and so at the end; at each charge it is intact.
+-- The program of every known task keeps worlds sound: at each question the world is sound and the question known, and so at the end; at each charge
+-- it is intact.
 abbrev pub KeepsEachBy : Programs → Type 0
 KeepsEachBy programs = (t : Task) (w : World) → IsSound w → IsKnownTask w.script w.lists t → IsKept (FitsTask t) (programs w.script t) w

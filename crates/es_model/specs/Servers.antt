@@ -45,7 +45,11 @@ pub record IsServerBy (programs : Programs) (S : Server) : Type 0 where
 
 -- the outcome is the same at every depth that is enough
 abbrev pub IsDepthFreeBy : Programs → Type 0
-IsDepthFreeBy programs = (d e n : ℕ) (t : Task) (w : World) → depth_for t w < d → depth_for t w < e → serve_by programs d n t w ≡ serve_by programs e n t w
+IsDepthFreeBy programs =
+    (d e n : ℕ) (t : Task) (w : World)
+    → depth_for t w < d
+    → depth_for t w < e
+    → serve_by programs d n t w ≡ serve_by programs e n t w
 
 -- a turn pays for so many requests: for a budget after its charge, and for one of what goes on after the part that took it
 abbrev pub turn_pays : Tree → ℕ

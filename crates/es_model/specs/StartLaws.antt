@@ -25,7 +25,8 @@ SymbolsAreInOrder = (s : WellKnown) → slice_get start_symbols (symbol_number s
 
 -- each start text stands at its number, and is found there
 abbrev pub TextsAreInOrder : Type 0
-TextsAreInOrder = (t : StartText) → (slice_get start_texts (text_number t) ≡ Some (units_of_start t)) × (text_place start_texts (units_of_start t) ≡ text_number t)
+TextsAreInOrder =
+    (t : StartText) → (slice_get start_texts (text_number t) ≡ Some (units_of_start t)) × (text_place start_texts (units_of_start t) ≡ text_number t)
 
 -- ---- soundness
 

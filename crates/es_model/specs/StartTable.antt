@@ -28,8 +28,8 @@ use Rattle.es_model.specs.StartTexts.{symbol_of, text_of}
 abbrev pub builtin : Intrinsic → Bool → ObjectKind
 builtin i constructor = kind.Builtin (start_number i) constructor None
 
--- %Array.prototype% is an Array (23.1.3), those of String, Number and Boolean are a String, Number and Boolean object (22.1.3, 21.1.3, 20.3.3), that of Function
--- is a function (20.2.3), and the others are ordinary
+-- %Array.prototype% is an Array (23.1.3), those of String, Number and Boolean are a String, Number and Boolean object (22.1.3, 21.1.3, 20.3.3), that
+-- of Function is a function (20.2.3), and the others are ordinary
 abbrev pub prototype_kind : Class → ObjectKind
 prototype_kind class.Object = kind.Ordinary
 prototype_kind class.Function = builtin (intrinsic.Prototype class.Function) false

@@ -70,7 +70,8 @@ units_of_start (text.Class (class.Error error.SyntaxError)) = codes "SyntaxError
 -- in the order of their numbers
 abbrev pub all_start_texts : List StartText
 all_start_texts =
-    text.Length ∷ text.Name ∷ text.Prototype ∷ text.Constructor ∷ text.Message ∷ text.Empty ∷ text.GlobalThis ∷ text.Undefined ∷ text.Proxy ∷ text.Reflect
+    text.Length ∷ text.Name ∷ text.Prototype ∷ text.Constructor ∷ text.Message ∷ text.Empty ∷ text.GlobalThis ∷ text.Undefined
+    ∷ text.Proxy ∷ text.Reflect
     ∷ text.Symbol symbol.HasInstance ∷ text.Symbol symbol.ToPrimitive ∷ text.Symbol symbol.ToStringTag
     ∷ text.Description symbol.HasInstance ∷ text.Description symbol.ToPrimitive ∷ text.Description symbol.ToStringTag
     ∷ text.Class class.Object ∷ text.Class class.Function ∷ text.Class class.Array ∷ text.Class class.String ∷ text.Class class.Number

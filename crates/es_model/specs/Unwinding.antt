@@ -24,8 +24,8 @@ pub record Reaches (o p : Outcome) : Type 0 where
   pub served : ℕ
   pub same : o ≡ plus served p
 
--- The same, and b, what is left at the second, is below a, what is left at the first, and two steps for each of those requests: one that begins it, and one that
--- takes its frame from the stack. So a loop that takes a frame or begins a request in each step has a number that falls.
+-- The same, and b, what is left at the second, is below a, what is left at the first, and two steps for each of those requests: one that begins it,
+-- and one that takes its frame from the stack. So a loop that takes a frame or begins a request in each step has a number that falls.
 pub record Nears (a b : ℕ) (o p : Outcome) : Type 0 where
   pub served : ℕ
   pub same : o ≡ plus served p

@@ -1,7 +1,7 @@
--- How much an algorithm may ask before its next charge. Each request and each part has a weight, and a charge gives a new budget: so the turns that are left bound
--- what a task comes to.
-use Rattle.std.specs.Prelude.{ℕ, zero, suc, ◌+◌, ◌*◌, ◌<◌, Bool, true, false, List, [], ◌∷◌, nat_le, if◌then◌else◌}
-use Rattle.es_tree.specs.declared.facts.LiteralFacts.{LiteralFacts}
+-- How much an algorithm may ask before its next charge. Each request and each part has a weight, and a charge gives a new budget: so the turns that
+-- are left bound what a task comes to.
+use Rattle.std.specs.Prelude.{ℕ, zero, suc, ◌+◌, ◌*◌, ◌<◌, Bool, true, false}
+use Rattle.es_tree.specs.Definitions.{most_definitions}
 use Rattle.es_tree.specs.Tree.{Tree}
 use Rattle.es_model.specs.declared.requests.Operation.{Operation}
 use Rattle.es_model.specs.declared.requests.Operation.TheVariants as operation
@@ -59,18 +59,10 @@ charges (Round body cells n) = false
 
 -- ---- the budget after a charge
 
-abbrev pub greater : ℕ → ℕ → ℕ
-greater m n = if nat_le m n then n else m
-
--- the most property definitions of an object literal
-abbrev pub most_definitions : List LiteralFacts → ℕ
-most_definitions [] = 0
-most_definitions (l ∷ ls) = greater l.definitions (most_definitions ls)
-
--- A property definition that is a name alone takes no turn, and may ask for a global name. All else that an algorithm asks for between two charges is bounded by a
--- number.
+-- A property definition that is a name alone takes no turn, and may ask for a global name. All else that an algorithm asks for between two charges is
+-- bounded by a number.
 unfoldable pub renewed : Tree → ℕ
-renewed script = 200 + 40 * most_definitions script.literals
+renewed script = 200 + 40 * most_definitions script.nodes
 
 -- the budget after a charge of so many turns, where a charge gives r
 abbrev pub renewed_by : ℕ → ℕ → ℕ → ℕ

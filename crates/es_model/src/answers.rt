@@ -1,3 +1,5 @@
+//! What answers a request, and what a call of a frame gives.
+
 use crate::{KeyList, Request, Values};
 use descriptors::{Complete, Descriptor};
 use property_keys::{NoMemory, ObjectId, PropKey, Value};

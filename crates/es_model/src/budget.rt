@@ -1,3 +1,5 @@
+//! The turns that are left.
+
 ghost use Rattle.std.specs.Prelude.{◌≡◌, ◌≤◌, ◌<◌, ◌+◌, OnOk, OnErr};
 
 use crate::Halted;

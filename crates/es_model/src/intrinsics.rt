@@ -1,3 +1,5 @@
+//! The start objects by name (6.1.7.4).
+
 ghost use Rattle.std.specs.Prelude.{◌≡◌};
 ghost use Rattle.es_model.specs.StartObjects.{class_place, error_place, object_of};
 

@@ -1,3 +1,5 @@
+//! The kinds of objects, with their inner slots.
+
 use crate::ArgumentCells;
 use es_tree::FunctionNo;
 use property_keys::{ObjectId, TextId, Value};

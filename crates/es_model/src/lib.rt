@@ -1,4 +1,5 @@
-//! The model of a run: worlds, changes, algorithms as programs, and the words in which algorithms ask.
+//! The model of a run, whatever the algorithms are: worlds and their changes, programs and what a program comes to, the words in which algorithms ask, the start
+//! objects, and the programs that many crates share. The algorithms stand with the crates that have their frames.
 #![tactic(auto)]
 
 mod answers;

@@ -1,3 +1,5 @@
+//! Lists of values and of keys.
+
 use crate::CellNo;
 use es_tree::Items;
 use property_keys::{PropKey, Value};

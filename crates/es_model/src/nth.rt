@@ -1,3 +1,5 @@
+//! A property by its place in a list of them.
+
 ghost use Rattle.std.specs.Prelude.{◌≡◌, slice_get};
 
 /// The n-th of a list, where there is one.

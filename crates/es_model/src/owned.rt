@@ -1,3 +1,5 @@
+//! A property with its key.
+
 use descriptors::Complete;
 use property_keys::PropKey;
 

@@ -1,3 +1,5 @@
+//! The requests by which an algorithm asks.
+
 use crate::Values;
 use descriptors::Descriptor;
 use es_tree::SiteId;

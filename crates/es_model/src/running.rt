@@ -1,3 +1,5 @@
+//! The running body, and the parts of a tree that have statements.
+
 use es_tree::{FunctionNo, NodeId};
 use property_keys::{ObjectId, Value};
 

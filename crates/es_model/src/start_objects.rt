@@ -1,3 +1,5 @@
+//! Kinds and prototypes of the start objects.
+
 ghost use Rattle.std.specs.Prelude.{◌≡◌, option_map, slice_get};
 ghost use Rattle.es_model.specs.StartObjects.{object_of};
 ghost use Rattle.es_model.specs.StartTable.{

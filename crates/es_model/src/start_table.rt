@@ -1,3 +1,5 @@
+//! The properties of the start objects.
+
 ghost use Rattle.std.specs.Prelude.{◌≡◌, slice_get};
 ghost use Rattle.property_keys.specs.declared.keys.PropKey.TheVariants.{Name};
 ghost use Rattle.es_model.specs.StartTexts.{text_of};

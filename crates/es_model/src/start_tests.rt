@@ -1,3 +1,5 @@
+//! Rows of the start table.
+
 use crate::*;
 use descriptors::Complete;
 use property_keys::{Attributes, ObjectId, PropKey, SymbolId, TextId, Value};

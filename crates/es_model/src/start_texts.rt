@@ -1,3 +1,5 @@
+//! The texts and Symbols that start objects name.
+
 ghost use Rattle.std.specs.Prelude.{◌≡◌, slice_get};
 ghost use Rattle.es_model.specs.declared.start_texts.StartText.TheVariants as text;
 ghost use Rattle.es_model.specs.StartTexts.{all_start_texts, symbol_of, text_of, units_of_start};

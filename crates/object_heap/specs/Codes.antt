@@ -24,7 +24,8 @@ use Rattle.object_heap.specs.Stands.{HeapView}
 abbrev pub seen_code : Coded Seen
 seen_code = code_by
     (ObjectKind × (Option ObjectId × (Bool × (List OwnProperty × FinMap nat_cmp Complete))))
-    (coded× kind_of.the_row.coded (coded× (coded_option object_id.the_row.coded) (coded× coded_bool (coded× (coded_list property.the_row.coded) (map_of.code coded_ℕ complete.the_row.coded)))))
+    (coded× kind_of.the_row.coded (coded× (coded_option object_id.the_row.coded) (coded× coded_bool
+    (coded× (coded_list property.the_row.coded) (map_of.code coded_ℕ complete.the_row.coded)))))
     (λ s. (s.kind, (s.proto, (s.extensible, (s.named, s.indexed)))))
     (λ p. record { kind = p.0; proto = p.1.0; extensible = p.1.1.0; named = p.1.1.1.0; indexed = p.1.1.1.1 })
     (λ _. refl)
@@ -32,7 +33,8 @@ seen_code = code_by
 abbrev pub heap_code : Coded HeapView
 heap_code = code_by
     (List Seen × (List (List ℕ) × (List (Option TextId) × (List (Option Value) × (ℕ × List OriginKind)))))
-    (coded× (coded_list seen_code) (coded× (coded_list (coded_list coded_ℕ)) (coded× (coded_list (coded_option text_id.the_row.coded)) (coded× (coded_list (coded_option value.the_row.coded)) (coded× coded_ℕ (coded_list origin.the_row.coded))))))
+    (coded× (coded_list seen_code) (coded× (coded_list (coded_list coded_ℕ)) (coded× (coded_list (coded_option text_id.the_row.coded))
+    (coded× (coded_list (coded_option value.the_row.coded)) (coded× coded_ℕ (coded_list origin.the_row.coded))))))
     (λ h. (h.objects, (h.texts, (h.symbols, (h.cells, (h.turns, h.origins))))))
     (λ p. record { objects = p.0; texts = p.1.0; symbols = p.1.1.0; cells = p.1.1.1.0; turns = p.1.1.1.1.0; origins = p.1.1.1.1.1 })
     (λ _. refl)

@@ -29,8 +29,8 @@ FollowsInTurn =
 abbrev pub RetainsInTurn : Type 0
 RetainsInTurn = ((heap : HeapView) → Retains heap heap) × ((a b c : HeapView) → Retains a b → Retains b c → Retains a c)
 
--- What the call of a frame gives at the stage at which its program stops is the turn of that program, whoever answers. (For each type of frames; here for frames
--- that are numbers.)
+-- What the call of a frame gives at the stage at which its program stops is the turn of that program, whoever answers. (For each type of frames; here
+-- for frames that are numbers.)
 abbrev pub StopsAreTurns : Type 0
 StopsAreTurns =
     (rest : ℕ → Completion → Program) (p : Program) (old new : HeapView) (w : World) (r : Result (Turn ℕ) Stop) →

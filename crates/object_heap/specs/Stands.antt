@@ -93,7 +93,8 @@ goes_then a b c u v w p q = record { stands = q.stands; follows = trails_then a 
 -- a print: what was printed is in no heap
 pub goes_printed : (heap : HeapView) (w : World) (bytes : List ℕ) → StandsFor heap w → Goes heap heap w (printed_more w bytes)
 unfolding HasObjects HasRest printed_more
-goes_printed heap w bytes h = record { stands = record { lists = record { objects = h.lists.objects; rest = h.lists.rest } }; follows = trails_none heap w.trace }
+goes_printed heap w bytes h =
+    record { stands = record { lists = record { objects = h.lists.objects; rest = h.lists.rest } }; follows = trails_none heap w.trace }
 
 -- ---- at a halt
 

@@ -1,5 +1,5 @@
--- What the call of a frame comes to. It begins in a world, with a program: that of the request, or the rest of an algorithm. All that is said below is said of the
--- one world in which that program stops by itself.
+-- What the call of a frame comes to. It begins in a world, with a program: that of the request, or the rest of an algorithm. All that is said below
+-- is said of the one world in which that program stops by itself.
 use Rattle.std.specs.Prelude.{◌≡◌, ◌+◌, ◌<◌, ⊤, ℕ, List, Some, Result, Ok, Err, length}
 use Rattle.es_model.specs.Completions.{Completion, answered}
 use Rattle.es_model.specs.declared.answers.Stop.{Stop}
@@ -40,8 +40,8 @@ abbrev pub HasMore : Outcome → Outcome → (Completion → World → Outcome) 
 HasMore whole (Ended c u n) rest = n + requests_of (rest c u) < requests_of whole
 HasMore whole (Halt u n) rest = n < requests_of whole
 
--- The turn is that of an algorithm with this outcome, whoever answers; v is the world in which it stops. At an Ask the outcome is that of the request and then of
--- the rest, which the frame stands for.
+-- The turn is that of an algorithm with this outcome, whoever answers; v is the world in which it stops. At an Ask the outcome is that of the request
+-- and then of the rest, which the frame stands for.
 abbrev pub LeadsOn : {F : Type 0} → (F → Completion → Program) → World → Server → ℕ → Outcome → Result (Turn F) Stop → Type 0
 LeadsOn rest v S n o (Ok (Done c)) = o ≡ Ended (answered c) v 0
 LeadsOn rest v S n o (Ok (Ask q f)) =
@@ -53,9 +53,10 @@ LeadsOn rest v S n o (Err NoMemory) = Unit {0}
 abbrev pub IsTurnOf : {F : Type 0} → Rest F → HeapView → HeapView → World → Server → ℕ → Outcome → Result (Turn F) Stop → Type 0
 IsTurnOf rest old new w S n o r = IsTurnBy Goes Halts rest old new w S n o r
 
--- The turn of a program, whoever answers and however many calls are running, with what the heap does. The world in which it stops is a later one of the same run,
--- so what was there is there.
-pub record IsTurn {F : Type 0} (rest : F → Completion → Program) (old new : HeapView) (p : Program) (w : World) (result : Result (Turn F) Stop) : Type 0 where
+-- The turn of a program, whoever answers and however many calls are running, with what the heap does. The world in which it stops is a later one of
+-- the same run, so what was there is there.
+pub record IsTurn
+    {F : Type 0} (rest : F → Completion → Program) (old new : HeapView) (p : Program) (w : World) (result : Result (Turn F) Stop) : Type 0 where
   pub goes : GoesTo old new w (world_after p w) result
   pub later : IsLater w (world_after p w)
   pub leads : (S : Server) (n : ℕ) → LeadsOn rest (world_after p w) S n (run S p n w) result

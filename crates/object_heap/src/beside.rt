@@ -1,3 +1,5 @@
+//! Calls on texts, Symbols, cells and turns.
+
 ghost use Rattle.std.specs.Prelude.{◌≡◌, ◌+◌, ◌++◌, ◌<◌, ◌^◌, ◌↔◌, false, length, nat_le, true, IfOk, IfSome, IsErrOf, IsNone, OnErr, OnOk};
 ghost use Rattle.property_keys.specs.Decimals.{whole_units};
 ghost use Rattle.property_keys.specs.Keys.{text_of_key};

@@ -1,3 +1,5 @@
+//! Cells: bindings with a value or none yet.
+
 ghost use Rattle.std.specs.Prelude.{◌≡◌, ◌++◌, ◌∷◌, [], length, slice_get, slice_set, IfOk, OnErr, OnOk, Some};
 ghost use Rattle.es_model.specs.World.{cell_in};
 

@@ -1,3 +1,5 @@
+//! Calls that make objects, and those on what an object is.
+
 ghost use Rattle.std.specs.Prelude.{◌≡◌, IfOk, OnErr, OnOk};
 ghost use Rattle.es_model.specs.Changes.{Making, Revoking, Unmapping, changed};
 ghost use Rattle.es_model.specs.World.{World, kind as kind_of, new_object};

@@ -1,3 +1,5 @@
+//! Error objects (20.5).
+
 ghost use Rattle.std.specs.Prelude.{◌≡◌, IfOk, OnErr, OnOk};
 ghost use Rattle.es_model.specs.World.{World};
 ghost use Rattle.object_heap.specs.Errors.{error_made, error_number};

@@ -1,3 +1,5 @@
+//! The heap, and what is read of it.
+
 ghost use Rattle.std.specs.Prelude.{◌≡◌, length, IfOk};
 ghost use Rattle.es_model.specs.StartWorld.{start_world};
 ghost use Rattle.es_tree.specs.Tree.{Tree};

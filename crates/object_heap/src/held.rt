@@ -1,3 +1,5 @@
+//! One object.
+
 ghost use Rattle.std.specs.Prelude.{◌≡◌, false, IfOk, IsSome, None, OnErr, OnOk};
 ghost use Rattle.es_model.specs.Objects.{is_proxy, new_object_of, revoked_kind, unmapped_kind};
 ghost use Rattle.es_model.specs.StartTable.{start_properties};

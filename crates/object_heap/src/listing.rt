@@ -1,3 +1,5 @@
+//! OrdinaryOwnPropertyKeys (10.1.11.1).
+
 ghost use Rattle.std.specs.Prelude.{◌≡◌, ◌++◌, ◌∷◌, [], filter, if◌then◌else◌, length, map, IfOk, OnOk};
 ghost use Rattle.property_keys.specs.declared.keys.PropKey.TheVariants.{Index};
 ghost use Rattle.es_model.specs.OwnKeys.{indices_in, is_name, is_symbol, keys_in, own_keys, put_index, put_key, with_indices_below};

@@ -1,3 +1,5 @@
+//! The list of objects, which answers for every number.
+
 ghost use Rattle.std.specs.Prelude.{◌≡◌, ◌&&◌, ◌++◌, ◌∷◌, [], false, length, map, nat_lt, not, IfOk, IsSome, MatchOption, None, OnErr, OnOk};
 ghost use Rattle.es_model.specs.Changes.{same_proto};
 ghost use Rattle.es_model.specs.Objects.{is_proxy, new_object_of, revoked_kind, unmapped_kind};

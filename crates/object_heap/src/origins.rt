@@ -1,3 +1,5 @@
+//! The origins of objects, with their numbers.
+
 ghost use Rattle.std.specs.Prelude.{◌≡◌, [], IfOk, OnErr, OnOk};
 ghost use Rattle.object_heap.specs.Origins.{constructor_places, literal_places, origin_place, same_origin, same_place, with_origin};
 

@@ -1,3 +1,5 @@
+//! Calls on the properties of an object.
+
 ghost use Rattle.std.specs.Prelude.{◌≡◌, ◌&&◌, not, IfOk, None, OnErr, OnOk, Some};
 ghost use Rattle.descriptors.specs.Validation as validation;
 ghost use Rattle.es_model.specs.Changes.{Accessing, Defining, Deleting, Preventing, SettingProto, Storing, added, changed, closed, is_there, removed, replaced, same_proto, with_proto};

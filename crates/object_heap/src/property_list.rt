@@ -1,3 +1,5 @@
+//! A list of properties in order of creation.
+
 ghost use Rattle.std.specs.Prelude.{◌≡◌, MatchOption, None};
 ghost use Rattle.es_model.specs.Objects.{find_property, remove_property, same_key};
 ghost use Rattle.object_heap.specs.Places.{IsPlace};

@@ -1,3 +1,5 @@
+//! What a heap begins with.
+
 ghost use Rattle.std.specs.Prelude.{◌≡◌, ◌≤◌, IfOk, Some, length};
 ghost use Rattle.es_model.specs.declared.start_texts.StartText.TheVariants as text;
 ghost use Rattle.es_model.specs.StartTexts.{start_symbols, start_texts, text_of};

@@ -17,7 +17,7 @@ use Rattle.es_model.specs.Program.{Of}
 use Rattle.es_model.specs.Known.{IsObject, IsKnownKey, IsKnownProperty}
 use Rattle.es_model.specs.Sound.{IsShort, most_units, IsSound}
 use Rattle.es_model.specs.Kept.{FitsTask, IsKept}
-use Rattle.ordinary_object.specs.Ordinary.{keys_program}
+use Rattle.ordinary_object.specs.Ordinary.{ordinary_own_property_keys}
 use Rattle.es_model.proofs.SoundProperties.{all-cond, all-filter}
 
 abbrev IsIndex : ℕ → Type 0
@@ -76,6 +76,6 @@ keys-known l x short h =
     (all-filter (IsKnownKey l) is_name (keys_in x.properties) keys))
     (all-filter (IsKnownKey l) is_symbol (keys_in x.properties) keys)
 
-pub keys-kept : (w : World) (o : ObjectId) → IsSound w → IsObject w.lists o → IsKept (FitsTask (Of (Keys o))) (keys_program o) w
+pub keys-kept : (w : World) (o : ObjectId) → IsSound w → IsObject w.lists o → IsKept (FitsTask (Of (Keys o))) (ordinary_own_property_keys o) w
 unfolding own_keys
 keys-kept w o s there = (s, (tt, keys-known w.lists (object_at w.lists.objects o) s.intact.lengths (s.intact.objects o there).properties))

@@ -18,20 +18,20 @@ use Rattle.es_model.specs.Fits.{Fits}
 use Rattle.es_model.specs.Sound.{IsSound}
 use Rattle.es_model.specs.Kept.{FitsTask, IsKept}
 use Rattle.es_model.specs.programs.Abrupt.{value_in, property_in}
-use Rattle.ordinary_object.specs.Ordinary.{define_program, delete_program, prevent_program, set_program, set_found, set_receiver, set_had, set_existing, value_alone, with_three_true}
+use Rattle.ordinary_object.specs.Ordinary.{ordinary_define_own_property, ordinary_delete, ordinary_prevent_extensions, ordinary_set, ordinary_set_with_own_descriptor, set_receiver, set_had, set_existing, value_alone, with_three_true}
 use Rattle.es_model.proofs.Abrupt.{answer-kept}
 use Rattle.es_model.proofs.KnownLater.{known-later, key-later, object-later}
 use Rattle.es_model.proofs.SoundReads.{own-known, proto-known, sound-charged}
 use Rattle.es_model.proofs.SoundChanges.{sound-defining, sound-deleting, sound-preventing}
 use Rattle.es_model.proofs.SoundErrors.{kept-if}
 
-pub define-kept : (w : World) (o : ObjectId) (k : PropKey) (d : Descriptor) → IsSound w → IsObject w.lists o → IsKnownKey w.lists k → IsKnownDescriptor w.lists d → IsKept (FitsTask (Of (Define o k d))) (define_program o k d) w
+pub define-kept : (w : World) (o : ObjectId) (k : PropKey) (d : Descriptor) → IsSound w → IsObject w.lists o → IsKnownKey w.lists k → IsKnownDescriptor w.lists d → IsKept (FitsTask (Of (Define o k d))) (ordinary_define_own_property o k d) w
 define-kept w o k d s there key h = (sound-defining w o k d s there key h, (tt, tt))
 
-pub delete-kept : (w : World) (o : ObjectId) (k : PropKey) → IsSound w → IsKept (FitsTask (Of (Delete o k))) (delete_program o k) w
+pub delete-kept : (w : World) (o : ObjectId) (k : PropKey) → IsSound w → IsKept (FitsTask (Of (Delete o k))) (ordinary_delete o k) w
 delete-kept w o k s = (sound-deleting w o k s, (tt, tt))
 
-pub prevent-kept : (w : World) (o : ObjectId) → IsSound w → IsKept (FitsTask (Of (Prevent o))) (prevent_program o) w
+pub prevent-kept : (w : World) (o : ObjectId) → IsSound w → IsKept (FitsTask (Of (Prevent o))) (ordinary_prevent_extensions o) w
 prevent-kept w o s = (sound-preventing w o s, (tt, tt))
 
 -- ---- [[Set]]
@@ -70,16 +70,16 @@ set_receiver-kept o x r site w k v (value.Whole n) s key known there = (s, (tt, 
 set_receiver-kept o x r site w k v (value.Text t) s key known there = (s, (tt, tt))
 set_receiver-kept o x r site w k v (value.Symbol y) s key known there = (s, (tt, tt))
 
-set_found-kept : (o : ObjectId) (x r : Value) (site : Option SiteId) (w : World) (found : Option Complete) (up : Option ObjectId) (k : PropKey) (v receiver : Value) → IsSound w → IfThere (IsKnownComplete w.lists) found → IfThere (IsObject w.lists) up → IsKnownKey w.lists k → IsKnown w.lists v → IsKnown w.lists receiver →
-    IsKept (FitsTask (Of (Write o k x r site))) (set_found found up k v receiver) w
+ordinary_set_with_own_descriptor-kept : (o : ObjectId) (x r : Value) (site : Option SiteId) (w : World) (found : Option Complete) (up : Option ObjectId) (k : PropKey) (v receiver : Value) → IsSound w → IfThere (IsKnownComplete w.lists) found → IfThere (IsObject w.lists) up → IsKnownKey w.lists k → IsKnown w.lists v → IsKnown w.lists receiver →
+    IsKept (FitsTask (Of (Write o k x r site))) (ordinary_set_with_own_descriptor found up k v receiver) w
 unfolding charged
-set_found-kept o x r site w None (Some parent) k v receiver s h up key known there = (s.intact, (sound-charged w 1 s, (up, key, known, there), λ c u later-sound later fit. (later-sound, fit)))
-set_found-kept o x r site w None None k v receiver s h up key known there = set_receiver-kept o x r site w k v receiver s key known there
-set_found-kept o x r site w (Some (Stored y flags)) up k v receiver s h u key known there =
+ordinary_set_with_own_descriptor-kept o x r site w None (Some parent) k v receiver s h up key known there = (s.intact, (sound-charged w 1 s, (up, key, known, there), λ c u later-sound later fit. (later-sound, fit)))
+ordinary_set_with_own_descriptor-kept o x r site w None None k v receiver s h up key known there = set_receiver-kept o x r site w k v receiver s key known there
+ordinary_set_with_own_descriptor-kept o x r site w (Some (Stored y flags)) up k v receiver s h u key known there =
     kept-if (FitsTask (Of (Write o k x r site))) w flags.writable _ _ (set_receiver-kept o x r site w k v receiver s key known there) (s, (tt, tt))
-set_found-kept o x r site w (Some (Accessor get None e c)) up k v receiver s h u key known there = (s, (tt, tt))
-set_found-kept o x r site w (Some (Accessor get (Some setter) e c)) up k v receiver s h u key known there =
+ordinary_set_with_own_descriptor-kept o x r site w (Some (Accessor get None e c)) up k v receiver s h u key known there = (s, (tt, tt))
+ordinary_set_with_own_descriptor-kept o x r site w (Some (Accessor get (Some setter) e c)) up k v receiver s h u key known there =
     (s, (h.1, there, (known, tt)), λ y z later-sound later fit. answer-kept (Of (Write o k x r site)) (Call (value.Object setter) receiver (v ∷ [])) z value_in _ y later-sound fit (λ a b e g. (later-sound, (tt, tt))))
 
-pub set-kept : (w : World) (o : ObjectId) (k : PropKey) (v receiver : Value) (site : Option SiteId) → IsSound w → IsObject w.lists o → IsKnownKey w.lists k → IsKnown w.lists v → IsKnown w.lists receiver → IsKept (FitsTask (Of (Write o k v receiver site))) (set_program o k v receiver) w
-set-kept w o k v receiver site s there key known r = set_found-kept o v receiver site w (own w.lists o k) (proto w.lists o) k v receiver s (own-known w o k s there) (proto-known w o s there) key known r
+pub set-kept : (w : World) (o : ObjectId) (k : PropKey) (v receiver : Value) (site : Option SiteId) → IsSound w → IsObject w.lists o → IsKnownKey w.lists k → IsKnown w.lists v → IsKnown w.lists receiver → IsKept (FitsTask (Of (Write o k v receiver site))) (ordinary_set o k v receiver) w
+set-kept w o k v receiver site s there key known r = ordinary_set_with_own_descriptor-kept o v receiver site w (own w.lists o k) (proto w.lists o) k v receiver s (own-known w o k s there) (proto-known w o s there) key known r

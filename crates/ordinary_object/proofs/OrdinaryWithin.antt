@@ -20,26 +20,26 @@ use Rattle.es_model.specs.Weights.{request_weight, IsWithin}
 use Rattle.es_model.specs.programs.Abrupt.{value_in, property_in, taken}
 use Rattle.es_model.specs.programs.Errors.{flag}
 use Rattle.es_model.proofs.Within.{within-cond, go_on-within}
-use Rattle.ordinary_object.specs.Ordinary.{set_proto_round, set_proto_program, ordinary_set_proto, immutable_set_proto, proto_is_set, same_object, has_found, get_found, set_existing, set_had, set_receiver, set_called, set_found, ordinary_program, value_alone}
+use Rattle.ordinary_object.specs.Ordinary.{set_prototype_round, set_prototype_of, ordinary_set_prototype_of, set_immutable_prototype, prototype_is_set, same_object, has_property_found, get_found, set_existing, set_had, set_receiver, set_called, ordinary_set_with_own_descriptor, ordinary_program, value_alone}
 
 -- each round is a charge
-round-within : (r b n : ℕ) (o : ObjectId) (v p : Option ObjectId) → IsWithin r b (set_proto_round n o v p)
+round-within : (r b n : ℕ) (o : ObjectId) (v p : Option ObjectId) → IsWithin r b (set_prototype_round n o v p)
 round-within r b zero o v p = tt
 round-within r b (suc n) o v None = tt
 round-within r b (suc n) o v (Some p) =
-    within-cond r r (same_object p o) (done (flag false)) (look (λ l. cond (is_proxy (kind l p)) (proto_is_set o v) (set_proto_round n o v (proto l p)))) tt
-    (λ l. within-cond r r (is_proxy (kind l p)) (proto_is_set o v) (set_proto_round n o v (proto l p)) tt (round-within r r n o v (proto l p)))
+    within-cond r r (same_object p o) (done (flag false)) (look (λ l. cond (is_proxy (kind l p)) (prototype_is_set o v) (set_prototype_round n o v (proto l p)))) tt
+    (λ l. within-cond r r (is_proxy (kind l p)) (prototype_is_set o v) (set_prototype_round n o v (proto l p)) tt (round-within r r n o v (proto l p)))
 
-set_proto-within : (r : ℕ) (o : ObjectId) (v : Option ObjectId) → IsWithin r 0 (set_proto_program o v)
+set_proto-within : (r : ℕ) (o : ObjectId) (v : Option ObjectId) → IsWithin r 0 (set_prototype_of o v)
 set_proto-within r o v =
-    within-cond r 0 (same_object o (object_of (intrinsic.Prototype class.Object))) (immutable_set_proto o v) (ordinary_set_proto o v)
+    within-cond r 0 (same_object o (object_of (intrinsic.Prototype class.Object))) (set_immutable_prototype o v) (ordinary_set_prototype_of o v)
     (λ l. tt)
     (λ l.
-    let rounds : Program = set_proto_round (suc (length l.objects)) o v v in
+    let rounds : Program = set_prototype_round (suc (length l.objects)) o v v in
     within-cond r 0 (same_proto (proto l o) v) (done (flag true)) (cond (extensible l o) rounds (done (flag false))) tt
     (within-cond r 0 (extensible l o) rounds (done (flag false)) (round-within r 0 (suc (length l.objects)) o v v) tt))
 
-has-within : (r : ℕ) → 200 ≤ r → (c : Option Complete) (up : Option ObjectId) (k : PropKey) → IsWithin r 1 (has_found c up k)
+has-within : (r : ℕ) → 200 ≤ r → (c : Option Complete) (up : Option ObjectId) (k : PropKey) → IsWithin r 1 (has_property_found c up k)
 has-within r enough (Some c) up k = tt
 has-within r enough None (Some parent) k = (0, omega arith, λ c. tt)
 has-within r enough None None k = tt
@@ -72,7 +72,7 @@ receiver-within r k v (value.Symbol s) = tt
 called-within : (r : ℕ) (c : Completion) → IsWithin r 0 (set_called c)
 called-within r c = go_on-within r 0 (λ v. done (flag true)) (taken value_in c) (λ v. tt)
 
-set-within : (r : ℕ) → 200 ≤ r → (c : Option Complete) (up : Option ObjectId) (k : PropKey) (v receiver : Value) → IsWithin r 32 (set_found c up k v receiver)
+set-within : (r : ℕ) → 200 ≤ r → (c : Option Complete) (up : Option ObjectId) (k : PropKey) (v receiver : Value) → IsWithin r 32 (ordinary_set_with_own_descriptor c up k v receiver)
 set-within r enough None (Some parent) k v receiver = (0, omega arith, λ c. tt)
 set-within r enough None None k v receiver = receiver-within r k v receiver
 set-within r enough (Some (Stored x flags)) up k v receiver =

@@ -7,7 +7,7 @@ use Rattle.es_model.specs.declared.answers.Turn.TheVariants.{Done}
 use Rattle.es_model.specs.World.{World}
 use Rattle.es_model.specs.Changes.{charged}
 use Rattle.es_model.specs.Stages.{Stage, stage_of}
-use Rattle.ordinary_object.specs.Ordinary.{set_proto_round}
+use Rattle.ordinary_object.specs.Ordinary.{set_prototype_round}
 use Rattle.object_heap.specs.Stands.{HeapView, Goes, goes_then}
 use Rattle.object_heap.specs.Stops.{Stops, stops_then}
 use Rattle.ordinary_object.specs.declared.frame.OrdinaryFrame.{OrdinaryFrame}
@@ -17,7 +17,7 @@ use Rattle.ordinary_object.specs.Rests.{program_after}
 use Rattle.ordinary_object.specs.Rounds.{IsRound, flag_answer}
 
 abbrev pub round_at : ℕ → ObjectId → Option ObjectId → Option ObjectId → World → Stage
-round_at left o u at v = stage_of (set_proto_round left o u at) v
+round_at left o u at v = stage_of (set_prototype_round left o u at) v
 
 -- from the world where the walk began, a world where it stands now
 abbrev pub Stands_at : HeapView → HeapView → World → Stage → ℕ → ObjectId → Option ObjectId → Option ObjectId → Type 0

@@ -23,10 +23,10 @@ use Rattle.es_model.specs.Program.{Program, done, look, change, charge, ask, def
 use Rattle.es_model.specs.programs.Abrupt.{then_property, then_value}
 use Rattle.es_model.specs.programs.Errors.{flag, undefined, unfit}
 
--- ---- [[GetPrototypeOf]] (10.1.1)
+-- ---- OrdinaryGetPrototypeOf (10.1.1.1), which is [[GetPrototypeOf]] (10.1.1)
 
-abbrev pub get_proto_program : ObjectId → Program
-get_proto_program o = look (λ l. done (Normal (reply.Proto (proto l o))))
+abbrev pub ordinary_get_prototype_of : ObjectId → Program
+ordinary_get_prototype_of o = look (λ l. done (Normal (reply.Proto (proto l o))))
 
 -- ---- [[SetPrototypeOf]] (10.1.2)
 
@@ -34,63 +34,64 @@ abbrev pub same_object : ObjectId → ObjectId → Bool
 same_object a b = nat_eq a.0 b.0
 
 -- steps 8 and 9
-abbrev pub proto_is_set : ObjectId → Option ObjectId → Program
-proto_is_set o v = change (SettingProto o v) (done (flag true))
+abbrev pub prototype_is_set : ObjectId → Option ObjectId → Program
+prototype_is_set o v = change (SettingProto o v) (done (flag true))
 
--- Step 7, a turn for each round, the last one too. `left` rounds are enough where no chain of prototypes comes back to an object without passing a Proxy: no chain
--- then has more objects than there are.
-abbrev pub set_proto_round : ℕ → ObjectId → Option ObjectId → Option ObjectId → Program
-set_proto_round zero o v p = done (flag false)
-set_proto_round (suc left) o v None = charge 1 (proto_is_set o v)
-set_proto_round (suc left) o v (Some p) = charge 1 (
+-- Step 7, a turn for each round, the last one too. `left` rounds are enough where no chain of prototypes comes back to an object without passing a
+-- Proxy: no chain then has more objects than there are.
+abbrev pub set_prototype_round : ℕ → ObjectId → Option ObjectId → Option ObjectId → Program
+set_prototype_round zero o v p = done (flag false)
+set_prototype_round (suc left) o v None = charge 1 (prototype_is_set o v)
+set_prototype_round (suc left) o v (Some p) = charge 1 (
     if same_object p o then done (flag false)
-    else look (λ l. if is_proxy (kind l p) then proto_is_set o v else set_proto_round left o v (proto l p)))
+    else look (λ l. if is_proxy (kind l p) then prototype_is_set o v else set_prototype_round left o v (proto l p)))
 
-abbrev pub ordinary_set_proto : ObjectId → Option ObjectId → Program
-ordinary_set_proto o v = look (λ l.
+-- OrdinarySetPrototypeOf (10.1.2.1)
+abbrev pub ordinary_set_prototype_of : ObjectId → Option ObjectId → Program
+ordinary_set_prototype_of o v = look (λ l.
     if same_proto (proto l o) v then done (flag true)
-    else (if extensible l o then set_proto_round (suc (length l.objects)) o v v
+    else (if extensible l o then set_prototype_round (suc (length l.objects)) o v v
     else done (flag false)))
 
--- the prototype of %Object.prototype% never changes (10.4.7)
-abbrev pub immutable_set_proto : ObjectId → Option ObjectId → Program
-immutable_set_proto o v = look (λ l. done (flag (same_proto (proto l o) v)))
+-- SetImmutablePrototype (10.4.7.2), which is [[SetPrototypeOf]] of %Object.prototype% (10.4.7.1)
+abbrev pub set_immutable_prototype : ObjectId → Option ObjectId → Program
+set_immutable_prototype o v = look (λ l. done (flag (same_proto (proto l o) v)))
 
-abbrev pub set_proto_program : ObjectId → Option ObjectId → Program
-set_proto_program o v =
-    if same_object o (object_of (intrinsic.Prototype class.Object)) then immutable_set_proto o v else ordinary_set_proto o v
+abbrev pub set_prototype_of : ObjectId → Option ObjectId → Program
+set_prototype_of o v =
+    if same_object o (object_of (intrinsic.Prototype class.Object)) then set_immutable_prototype o v else ordinary_set_prototype_of o v
 
--- ---- [[IsExtensible]] (10.1.3)
+-- ---- OrdinaryIsExtensible (10.1.3.1), which is [[IsExtensible]] (10.1.3)
 
-abbrev pub extensible_program : ObjectId → Program
-extensible_program o = look (λ l. done (flag (extensible l o)))
+abbrev pub ordinary_is_extensible : ObjectId → Program
+ordinary_is_extensible o = look (λ l. done (flag (extensible l o)))
 
--- ---- [[PreventExtensions]] (10.1.4)
+-- ---- OrdinaryPreventExtensions (10.1.4.1), which is [[PreventExtensions]] (10.1.4)
 
-abbrev pub prevent_program : ObjectId → Program
-prevent_program o = change (Preventing o) (done (flag true))
+abbrev pub ordinary_prevent_extensions : ObjectId → Program
+ordinary_prevent_extensions o = change (Preventing o) (done (flag true))
 
--- ---- [[GetOwnProperty]] (10.1.5)
+-- ---- OrdinaryGetOwnProperty (10.1.5.1), which is [[GetOwnProperty]] (10.1.5)
 
-abbrev pub get_own_program : ObjectId → PropKey → Program
-get_own_program o k = look (λ l. done (Normal (reply.Property (own l o k))))
+abbrev pub ordinary_get_own_property : ObjectId → PropKey → Program
+ordinary_get_own_property o k = look (λ l. done (Normal (reply.Property (own l o k))))
 
--- ---- [[DefineOwnProperty]] (10.1.6)
+-- ---- OrdinaryDefineOwnProperty (10.1.6.1), which is [[DefineOwnProperty]] (10.1.6)
 
-abbrev pub define_program : ObjectId → PropKey → Descriptor → Program
-define_program o k wanted = define o k wanted (λ b. done (flag b))
+abbrev pub ordinary_define_own_property : ObjectId → PropKey → Descriptor → Program
+ordinary_define_own_property o k wanted = define o k wanted (λ b. done (flag b))
 
--- ---- [[HasProperty]] (10.1.7)
+-- ---- OrdinaryHasProperty (10.1.7.1), which is [[HasProperty]] (10.1.7)
 
-abbrev pub has_found : Option Complete → Option ObjectId → PropKey → Program
-has_found (Some c) up k = done (flag true)
-has_found None (Some parent) k = charge 1 (ask (Has parent k) done)
-has_found None None k = done (flag false)
+abbrev pub has_property_found : Option Complete → Option ObjectId → PropKey → Program
+has_property_found (Some c) up k = done (flag true)
+has_property_found None (Some parent) k = charge 1 (ask (Has parent k) done)
+has_property_found None None k = done (flag false)
 
-abbrev pub has_program : ObjectId → PropKey → Program
-has_program o k = look (λ l. has_found (own l o k) (proto l o) k)
+abbrev pub ordinary_has_property : ObjectId → PropKey → Program
+ordinary_has_property o k = look (λ l. has_property_found (own l o k) (proto l o) k)
 
--- ---- [[Get]] (10.1.8)
+-- ---- OrdinaryGet (10.1.8.1), which is [[Get]] (10.1.8)
 
 abbrev pub get_found : Option Complete → Option ObjectId → PropKey → Value → Program
 get_found None None k receiver = done undefined
@@ -99,10 +100,10 @@ get_found (Some (Stored v flags)) up k receiver = done (Normal (reply.Value v))
 get_found (Some (Accessor None set e c)) up k receiver = done undefined
 get_found (Some (Accessor (Some getter) set e c)) up k receiver = ask (Call (value.Object getter) receiver []) done
 
-abbrev pub get_program : ObjectId → PropKey → Value → Program
-get_program o k receiver = look (λ l. get_found (own l o k) (proto l o) k receiver)
+abbrev pub ordinary_get : ObjectId → PropKey → Value → Program
+ordinary_get o k receiver = look (λ l. get_found (own l o k) (proto l o) k receiver)
 
--- ---- [[Set]] (10.1.9)
+-- ---- OrdinarySet (10.1.9.1), which is [[Set]] (10.1.9)
 
 -- the descriptor of a value alone (10.1.9.2, step 2.d.iii)
 abbrev pub value_alone : Value → Descriptor
@@ -138,40 +139,40 @@ abbrev pub set_called : Completion → Program
 set_called c = then_value (λ v. done (flag true)) c
 
 -- OrdinarySetWithOwnDescriptor (10.1.9.2)
-abbrev pub set_found : Option Complete → Option ObjectId → PropKey → Value → Value → Program
-set_found None (Some parent) k v receiver = charge 1 (ask (Write parent k v receiver None) done)
-set_found None None k v receiver = set_receiver k v receiver
-set_found (Some (Stored x flags)) up k v receiver = if flags.writable then set_receiver k v receiver else done (flag false)
-set_found (Some (Accessor get None e c)) up k v receiver = done (flag false)
-set_found (Some (Accessor get (Some setter) e c)) up k v receiver = ask (Call (value.Object setter) receiver (v ∷ [])) set_called
+abbrev pub ordinary_set_with_own_descriptor : Option Complete → Option ObjectId → PropKey → Value → Value → Program
+ordinary_set_with_own_descriptor None (Some parent) k v receiver = charge 1 (ask (Write parent k v receiver None) done)
+ordinary_set_with_own_descriptor None None k v receiver = set_receiver k v receiver
+ordinary_set_with_own_descriptor (Some (Stored x flags)) up k v receiver = if flags.writable then set_receiver k v receiver else done (flag false)
+ordinary_set_with_own_descriptor (Some (Accessor get None e c)) up k v receiver = done (flag false)
+ordinary_set_with_own_descriptor (Some (Accessor get (Some setter) e c)) up k v receiver = ask (Call (value.Object setter) receiver (v ∷ [])) set_called
 
-abbrev pub set_program : ObjectId → PropKey → Value → Value → Program
-set_program o k v receiver = look (λ l. set_found (own l o k) (proto l o) k v receiver)
+abbrev pub ordinary_set : ObjectId → PropKey → Value → Value → Program
+ordinary_set o k v receiver = look (λ l. ordinary_set_with_own_descriptor (own l o k) (proto l o) k v receiver)
 
--- ---- [[Delete]] (10.1.10)
+-- ---- OrdinaryDelete (10.1.10.1), which is [[Delete]] (10.1.10)
 
-abbrev pub delete_program : ObjectId → PropKey → Program
-delete_program o k = delete o k (λ b. done (flag b))
+abbrev pub ordinary_delete : ObjectId → PropKey → Program
+ordinary_delete o k = delete o k (λ b. done (flag b))
 
--- ---- [[OwnPropertyKeys]] (10.1.11)
+-- ---- OrdinaryOwnPropertyKeys (10.1.11.1), which is [[OwnPropertyKeys]] (10.1.11)
 
-abbrev pub keys_program : ObjectId → Program
-keys_program o = look (λ l. done (Normal (reply.Keys (own_keys l o))))
+abbrev pub ordinary_own_property_keys : ObjectId → Program
+ordinary_own_property_keys o = look (λ l. done (Normal (reply.Keys (own_keys l o))))
 
 -- ---- the requests that go to ordinary objects. The dispatcher sends no other there
 
 abbrev pub ordinary_program : Request → Program
-ordinary_program (GetOwn o k) = get_own_program o k
-ordinary_program (Define o k wanted) = define_program o k wanted
-ordinary_program (Has o k) = has_program o k
-ordinary_program (Read o k receiver site) = get_program o k receiver
-ordinary_program (Write o k v receiver site) = set_program o k v receiver
-ordinary_program (Delete o k) = delete_program o k
-ordinary_program (Keys o) = keys_program o
-ordinary_program (Proto o) = get_proto_program o
-ordinary_program (SetProto o p) = set_proto_program o p
-ordinary_program (Extensible o) = extensible_program o
-ordinary_program (Prevent o) = prevent_program o
+ordinary_program (GetOwn o k) = ordinary_get_own_property o k
+ordinary_program (Define o k wanted) = ordinary_define_own_property o k wanted
+ordinary_program (Has o k) = ordinary_has_property o k
+ordinary_program (Read o k receiver site) = ordinary_get o k receiver
+ordinary_program (Write o k v receiver site) = ordinary_set o k v receiver
+ordinary_program (Delete o k) = ordinary_delete o k
+ordinary_program (Keys o) = ordinary_own_property_keys o
+ordinary_program (Proto o) = ordinary_get_prototype_of o
+ordinary_program (SetProto o p) = set_prototype_of o p
+ordinary_program (Extensible o) = ordinary_is_extensible o
+ordinary_program (Prevent o) = ordinary_prevent_extensions o
 ordinary_program (Call f this arguments) = unfit
 ordinary_program (Construct f arguments target) = unfit
 ordinary_program (Work operation operands) = unfit

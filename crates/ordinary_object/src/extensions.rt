@@ -1,6 +1,8 @@
+//! Whether an object can be extended (10.1.3, 10.1.4).
+
 ghost use Rattle.es_model.specs.Stages.{stage_of};
 ghost use Rattle.es_model.specs.World.{World};
-ghost use Rattle.ordinary_object.specs.Ordinary.{extensible_program, prevent_program};
+ghost use Rattle.ordinary_object.specs.Ordinary.{ordinary_is_extensible, ordinary_prevent_extensions};
 ghost use Rattle.object_heap.specs.Retains.{Retains};
 ghost use Rattle.object_heap.specs.Stands.{StandsFor};
 ghost use Rattle.object_heap.specs.Stops.{Stops};
@@ -13,9 +15,12 @@ use es_model::{Completion, Reply, Stop, Turn};
 use object_heap::Heap;
 use property_keys::{Ledger, ObjectId, Steps};
 
-/// [[IsExtensible]] (10.1.3).
-pub(crate) fn extensible(heap: &mut Heap, object: ObjectId) -> Result<Turn<OrdinaryFrame>, Stop>
-    ensures stops { (w : World) → StandsFor heap.old w → Stops program_after heap.old heap.new w (stage_of (extensible_program object) w) result }
+/// OrdinaryIsExtensible (10.1.3.1), which is [[IsExtensible]] (10.1.3).
+pub(crate) fn ordinary_is_extensible(
+    heap: &mut Heap,
+    object: ObjectId,
+) -> Result<Turn<OrdinaryFrame>, Stop>
+    ensures stops { (w : World) → StandsFor heap.old w → Stops program_after heap.old heap.new w (stage_of (ordinary_is_extensible object) w) result }
     ensures named { (w : World) → KeepsNamed names_of w result }
     ensures retains { Retains heap.old heap.new }
 {
@@ -23,13 +28,13 @@ pub(crate) fn extensible(heap: &mut Heap, object: ObjectId) -> Result<Turn<Ordin
     Ok(Turn::Done(Completion::Normal(Reply::Flag(is_extensible))))
 }
 
-/// [[PreventExtensions]] (10.1.4).
-pub(crate) fn prevent<L: Ledger>(
+/// OrdinaryPreventExtensions (10.1.4.1), which is [[PreventExtensions]] (10.1.4).
+pub(crate) fn ordinary_prevent_extensions<L: Ledger>(
     heap: &mut Heap,
     object: ObjectId,
     steps: &mut Steps<L>,
 ) -> Result<Turn<OrdinaryFrame>, Stop>
-    ensures stops { (w : World) → StandsFor heap.old w → Stops program_after heap.old heap.new w (stage_of (prevent_program object) w) result }
+    ensures stops { (w : World) → StandsFor heap.old w → Stops program_after heap.old heap.new w (stage_of (ordinary_prevent_extensions object) w) result }
     ensures named { (w : World) → KeepsNamed names_of w result }
     ensures retains { Retains heap.old heap.new }
 {

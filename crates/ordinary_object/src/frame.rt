@@ -1,8 +1,10 @@
+//! The frames of the ordinary methods.
+
 use property_keys::{ObjectId, PropKey, Value};
 
 /// A [[Set]] that goes on to an object as its receiver.
 #[derive(Clone, Copy, Debug)]
-pub struct Setting {
+pub struct PendingSet {
     pub key: PropKey,
     pub value: Value,
     pub receiver: ObjectId,
@@ -20,7 +22,7 @@ pub enum OrdinaryFrame {
     /// [[Set]] of the prototype (10.1.9.2, step 1.b)
     ParentSet,
     /// [[GetOwnProperty]] of the receiver (10.1.9.2, step 2.c)
-    ReceiverHad(Setting),
+    ReceiverHad(PendingSet),
     /// [[DefineOwnProperty]] of the receiver (10.1.9.2, steps 2.d and 2.e)
     ReceiverDefined,
     /// a setter (10.1.9.2, step 6)

@@ -12,7 +12,7 @@ mod rounds;
 mod setting;
 mod turns;
 
-pub use frame::{OrdinaryFrame, Setting};
+pub use frame::{OrdinaryFrame, PendingSet};
 pub use laws::rounds_suffice;
 pub use turns::{resume, start};
 

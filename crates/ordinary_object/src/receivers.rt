@@ -1,3 +1,5 @@
+//! OrdinarySetWithOwnDescriptor (10.1.9.2) at its receiver.
+
 ghost use Rattle.std.specs.Prelude.{◌≡◌};
 ghost use Rattle.es_model.specs.Completions.{answered};
 ghost use Rattle.es_model.specs.Known.{IsKnown, IsKnownKey};
@@ -11,13 +13,13 @@ ghost use Rattle.object_heap.specs.Turns.{KeepsNamed};
 ghost use Rattle.ordinary_object.specs.Names.{names_of};
 ghost use Rattle.ordinary_object.specs.Rests.{program_after};
 
-use crate::frame::{OrdinaryFrame, Setting};
+use crate::frame::{OrdinaryFrame, PendingSet};
 use descriptors::{Complete, Descriptor};
 use es_model::{Completion, Reply, Request, Stop, Turn};
 use object_heap::Heap;
 use property_keys::{PropKey, Value};
 
-/// Steps 2.b and 2.c of 10.1.9.2: the receiver's own property.
+/// Steps 2.b and 2.c of OrdinarySetWithOwnDescriptor (10.1.9.2): the receiver's own property.
 pub(crate) fn set_receiver(
     heap: &mut Heap,
     key: PropKey,
@@ -29,18 +31,20 @@ pub(crate) fn set_receiver(
     ensures retains { Retains heap.old heap.new }
 {
     match receiver {
+        // step 2.c
         Value::Object(receiver) => {
             let request = Request::GetOwn {
                 object: receiver,
                 key,
             };
-            let setting = Setting {
+            let pending = PendingSet {
                 key,
                 value,
                 receiver,
             };
-            Ok(Turn::Ask(request, OrdinaryFrame::ReceiverHad(setting)))
+            Ok(Turn::Ask(request, OrdinaryFrame::ReceiverHad(pending)))
         }
+        // step 2.b
         Value::Undefined
         | Value::Null
         | Value::Bool(_)
@@ -50,41 +54,43 @@ pub(crate) fn set_receiver(
     }
 }
 
-/// What follows step 2.c of 10.1.9.2.
+/// What follows step 2.c of OrdinarySetWithOwnDescriptor (10.1.9.2).
 pub(crate) fn set_had(
     heap: &mut Heap,
-    setting: Setting,
+    pending: PendingSet,
     answer: Completion,
 ) -> Result<Turn<OrdinaryFrame>, Stop>
-    ensures stops { (w : World) → StandsFor heap.old w → Stops program_after heap.old heap.new w (stage_of (set_had setting.key setting.value setting.receiver (answered answer)) w) result }
+    ensures stops { (w : World) → StandsFor heap.old w → Stops program_after heap.old heap.new w (stage_of (set_had pending.key pending.value pending.receiver (answered answer)) w) result }
     ensures named { (w : World) → KeepsNamed names_of w result }
     ensures retains { Retains heap.old heap.new }
 {
     match answer.property() {
-        Ok(existing) => set_existing(heap, setting, existing),
+        Ok(existing) => set_existing(heap, pending, existing),
         Err(thrown) => Ok(Turn::Done(Completion::Throw(thrown))),
     }
 }
 
-/// Steps 2.d and 2.e of 10.1.9.2.
+/// Steps 2.d and 2.e of OrdinarySetWithOwnDescriptor (10.1.9.2).
 fn set_existing(
     heap: &mut Heap,
-    setting: Setting,
+    pending: PendingSet,
     existing: Option<Complete>,
 ) -> Result<Turn<OrdinaryFrame>, Stop>
-    ensures stops { (w : World) → StandsFor heap.old w → Stops program_after heap.old heap.new w (stage_of (set_existing setting.key setting.value setting.receiver existing) w) result }
+    ensures stops { (w : World) → StandsFor heap.old w → Stops program_after heap.old heap.new w (stage_of (set_existing pending.key pending.value pending.receiver existing) w) result }
     ensures named { (w : World) → KeepsNamed names_of w result }
     ensures retains { Retains heap.old heap.new }
 {
-    let Setting {
+    let PendingSet {
         key,
         value,
         receiver,
-    } = setting;
+    } = pending;
     match existing {
+        // step 2.d.i
         Some(Complete::Accessor { .. }) => Ok(Turn::Done(Completion::Normal(Reply::Flag(false)))),
         Some(Complete::Stored { attributes, .. }) => {
             if attributes.writable {
+                // steps 2.d.iii and 2.d.iv
                 let request = Request::Define {
                     object: receiver,
                     key,
@@ -92,9 +98,11 @@ fn set_existing(
                 };
                 Ok(Turn::Ask(request, OrdinaryFrame::ReceiverDefined))
             } else {
+                // step 2.d.ii
                 Ok(Turn::Done(Completion::Normal(Reply::Flag(false))))
             }
         }
+        // step 2.e
         None => {
             let request = Request::Define {
                 object: receiver,

@@ -1,3 +1,5 @@
+//! The two calls of the crate.
+
 ghost use Rattle.es_model.specs.Completions.{answered};
 ghost use Rattle.es_model.specs.Fits.{IsKnownRequest};
 ghost use Rattle.es_model.specs.Sound.{IsSound};
@@ -14,12 +16,15 @@ ghost use Rattle.ordinary_object.specs.Rests.{program_after};
 ghost use Rattle.ordinary_object.specs.Serving.{IsForOrdinary};
 
 use crate::OrdinaryFrame;
-use crate::extensions::{extensible, prevent};
-use crate::getting::{get, has};
-use crate::properties::{define, delete, get_own, keys};
-use crate::prototypes::{get_proto, set_proto};
+use crate::extensions::{ordinary_is_extensible, ordinary_prevent_extensions};
+use crate::getting::{ordinary_get, ordinary_has_property};
+use crate::properties::{
+    ordinary_define_own_property, ordinary_delete, ordinary_get_own_property,
+    ordinary_own_property_keys,
+};
+use crate::prototypes::{ordinary_get_prototype_of, set_prototype_of};
 use crate::receivers::set_had;
-use crate::setting::{set, set_called};
+use crate::setting::{ordinary_set, set_called};
 use es_model::{Completion, Request, Stop, Turn};
 use object_heap::Heap;
 use property_keys::{Ledger, Steps, Value};
@@ -76,32 +81,32 @@ fn first_turn<L: Ledger>(
     ensures retains { Retains heap.old heap.new }
 {
     match request {
-        Request::GetOwn { object, key } => get_own(heap, *object, *key, steps),
+        Request::GetOwn { object, key } => ordinary_get_own_property(heap, *object, *key, steps),
         Request::Define {
             object,
             key,
             wanted,
-        } => define(heap, *object, *key, wanted, steps),
-        Request::Has { object, key } => has(heap, *object, *key, steps),
+        } => ordinary_define_own_property(heap, *object, *key, wanted, steps),
+        Request::Has { object, key } => ordinary_has_property(heap, *object, *key, steps),
         Request::Read {
             object,
             key,
             receiver,
             ..
-        } => get(alloc, heap, *object, *key, *receiver, steps),
+        } => ordinary_get(alloc, heap, *object, *key, *receiver, steps),
         Request::Write {
             object,
             key,
             value,
             receiver,
             ..
-        } => set(alloc, heap, *object, *key, *value, *receiver, steps),
-        Request::Delete { object, key } => delete(heap, *object, *key, steps),
-        Request::Keys { object } => keys(heap, *object, steps),
-        Request::Proto { object } => get_proto(heap, *object),
-        Request::SetProto { object, proto } => set_proto(heap, *object, *proto, steps),
-        Request::Extensible { object } => extensible(heap, *object),
-        Request::Prevent { object } => prevent(heap, *object, steps),
+        } => ordinary_set(alloc, heap, *object, *key, *value, *receiver, steps),
+        Request::Delete { object, key } => ordinary_delete(heap, *object, *key, steps),
+        Request::Keys { object } => ordinary_own_property_keys(heap, *object, steps),
+        Request::Proto { object } => ordinary_get_prototype_of(heap, *object),
+        Request::SetProto { object, proto } => set_prototype_of(heap, *object, *proto, steps),
+        Request::Extensible { object } => ordinary_is_extensible(heap, *object),
+        Request::Prevent { object } => ordinary_prevent_extensions(heap, *object, steps),
         Request::Call { .. }
         | Request::Construct { .. }
         | Request::Work { .. }
@@ -125,6 +130,6 @@ fn next_turn(
         | OrdinaryFrame::ParentSet
         | OrdinaryFrame::ReceiverDefined => Ok(Turn::Done(answer)),
         OrdinaryFrame::SetterCalled => set_called(heap, answer),
-        OrdinaryFrame::ReceiverHad(setting) => set_had(heap, setting, answer),
+        OrdinaryFrame::ReceiverHad(pending) => set_had(heap, pending, answer),
     }
 }

@@ -1,3 +1,5 @@
+//! Lists of code units.
+
 ghost use Rattle.std.specs.Prelude.{◌≡◌, ◌<◌, ◌≤◌, ◌+◌, ◌^◌, ◌++◌, ◌∷◌, [], ℕ, List, length, slice_get, Some, IfOk, OnOk, OnErr, IsErrOf, ◌↔◌};
 
 use crate::{KeyFault, NoMemory};

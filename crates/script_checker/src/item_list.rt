@@ -1,3 +1,5 @@
+//! A list of what parts became.
+
 ghost use Rattle.std.specs.Prelude.{◌≡◌, ◌++◌, ◌∷◌, [], length, OnOk};
 
 use crate::Item;

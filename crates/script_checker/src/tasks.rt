@@ -1,3 +1,5 @@
+//! What is to be done next.
+
 use crate::Value;
 use script_rules::{Role, ScopeId};
 

@@ -1,3 +1,5 @@
+//! The leaves of a script.
+
 use property_keys::Units;
 
 /// What a token of a script says.

@@ -21,7 +21,7 @@ use Rattle.es_tree.specs.Tree.{empty_tree}
 use Rattle.es_model.specs.Objects.{Object, is_proxy}
 use Rattle.es_model.specs.World.{World}
 use Rattle.es_model.specs.Program.{Of, Ended, Halt, Server, run}
-use Rattle.ordinary_object.specs.Ordinary.{get_program, set_program}
+use Rattle.ordinary_object.specs.Ordinary.{ordinary_get, ordinary_set}
 use Rattle.es_serve.specs.Serve.{model}
 use Rattle.es_model.specs.Belongs.{FrameName, NamesObject, NamesKind, NamesValue, NamesKey, Belongs}
 
@@ -152,23 +152,23 @@ throwing n other w = Halt w 0
 
 -- The receiver stays the same on the way up (10.1.8.1, step 2.c).
 abbrev pub GetHandsReceiver : Type 0
-GetHandsReceiver = run echo (get_program (at 3) (text 0) (object 2)) 0 (chain_with 5) ≡ Ended (gives (object 2)) (chain_with 4) 1
+GetHandsReceiver = run echo (ordinary_get (at 3) (text 0) (object 2)) 0 (chain_with 5) ≡ Ended (gives (object 2)) (chain_with 4) 1
 
 -- A getter is called on the receiver (10.1.8.1, step 7).
 abbrev pub GetterHasReceiver : Type 0
-GetterHasReceiver = run echo (get_program (at 0) (text 1) (object 3)) 0 (chain_with 5) ≡ Ended (gives (object 3)) (chain_with 5) 1
+GetterHasReceiver = run echo (ordinary_get (at 0) (text 1) (object 3)) 0 (chain_with 5) ≡ Ended (gives (object 3)) (chain_with 5) 1
 
 -- The receiver stays the same on the way up (10.1.9.2, step 1.b.i).
 abbrev pub SetHandsReceiver : Type 0
-SetHandsReceiver = run echo (set_program (at 3) (text 0) (whole 9) (object 2)) 0 (chain_with 5) ≡ Ended (gives (object 2)) (chain_with 4) 1
+SetHandsReceiver = run echo (ordinary_set (at 3) (text 0) (whole 9) (object 2)) 0 (chain_with 5) ≡ Ended (gives (object 2)) (chain_with 4) 1
 
 -- Whatever a setter returns, the answer is true (10.1.9.2, step 7).
 abbrev pub SetterReturns : Type 0
-SetterReturns = run echo (set_program (at 0) (text 1) (whole 9) (object 3)) 0 (chain_with 5) ≡ Ended (says true) (chain_with 5) 1
+SetterReturns = run echo (ordinary_set (at 0) (text 1) (whole 9) (object 3)) 0 (chain_with 5) ≡ Ended (says true) (chain_with 5) 1
 
 -- A setter gets the value (10.1.9.2, step 6), and what it throws is thrown.
 abbrev pub SetterHasValue : Type 0
-SetterHasValue = run throwing (set_program (at 0) (text 1) (whole 9) (object 3)) 0 (chain_with 5) ≡ Ended (Throw (whole 9)) (chain_with 5) 1
+SetterHasValue = run throwing (ordinary_set (at 0) (text 1) (whole 9) (object 3)) 0 (chain_with 5) ≡ Ended (Throw (whole 9)) (chain_with 5) 1
 
 -- ---- sites: an access that counts is noted before the algorithm starts, with its walk up the prototypes
 
@@ -557,7 +557,8 @@ CallOfProxy =
     ∷ Made (at 2) OfError (Some (at 18))
     ∷ Added (at 2) (text 1) (OfValue IsOther hidden_flags) ∷ [])) 0
 
--- Step 4.a of 10.1.7.1 at object 4 takes a turn and asks object 3, a Proxy, whose method is entered for another turn. It is not written yet: it throws undefined.
+-- Step 4.a of 10.1.7.1 at object 4 takes a turn and asks object 3, a Proxy, whose method is entered for another turn. It is not written yet: it
+-- throws undefined.
 abbrev pub HasEntersProxy : Type 0
 HasEntersProxy = answers (Has (at 4) (text 0)) (family 5) (Throw value.Undefined) (family 3) 1
 

@@ -1,3 +1,5 @@
+//! The steps of the tests, and what is to be seen of each.
+
 use super::steps::{Beside, Change, Key, Make, Read, Step, Texts, Which, Words};
 use descriptors::{Complete, Descriptor};
 use es_model::{CellNo, Class, ErrorKind, Intrinsic, StartText, WellKnown};

@@ -1,3 +1,5 @@
+//! A step of a test, and what is seen of it.
+
 use crate::Heap;
 use descriptors::{Complete, Descriptor};
 use es_model::{CellNo, ErrorKind, Intrinsic, KeyList, ObjectKind, StartText, WellKnown};

@@ -9,6 +9,11 @@ use std::test::Fail;
 struct Row(&'static str, &'static str);
 
 static TREES: &[Row] = &[
+    // the script that docs/TOKENS.md, GRAMMAR.md and TREE.md go through
+    Row(
+        "let o = {};\no.a = 7\nprint(o.a);",
+        "(And (And (And Nothing (Lexical { constant: false, first: 0 } (And Nothing (Binding(1) (Object(3) Nothing))))) (Evaluate (Assign(Plain) (Member { dot: 7, word: 8 } Name(6)) Number(10)))) (Evaluate (Call Name(11) (And Nothing (Member { dot: 14, word: 15 } Name(13))))))",
+    ),
     Row(
         "a + b * c",
         "(And Nothing (Evaluate (Binary(Add) Name(0) (Binary(Multiply) Name(2) Name(4)))))",

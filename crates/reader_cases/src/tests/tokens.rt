@@ -28,6 +28,31 @@ static GOOD: &[Good] = &[
         tokens: &[],
         end: (1, 1),
     },
+    // the script that docs/TOKENS.md, GRAMMAR.md and TREE.md go through
+    Good {
+        source: "let o = {};\no.a = 7\nprint(o.a);",
+        tokens: &[
+            Seen(Wanted::Name("let"), 1, 1, false),
+            Seen(Wanted::Name("o"), 1, 5, false),
+            Seen(Wanted::Punctuator("="), 1, 7, false),
+            Seen(Wanted::Punctuator("{"), 1, 9, false),
+            Seen(Wanted::Punctuator("}"), 1, 10, false),
+            Seen(Wanted::Punctuator(";"), 1, 11, false),
+            Seen(Wanted::Name("o"), 2, 1, true),
+            Seen(Wanted::Punctuator("."), 2, 2, false),
+            Seen(Wanted::Name("a"), 2, 3, false),
+            Seen(Wanted::Punctuator("="), 2, 5, false),
+            Seen(Wanted::Number(7), 2, 7, false),
+            Seen(Wanted::Name("print"), 3, 1, true),
+            Seen(Wanted::Punctuator("("), 3, 6, false),
+            Seen(Wanted::Name("o"), 3, 7, false),
+            Seen(Wanted::Punctuator("."), 3, 8, false),
+            Seen(Wanted::Name("a"), 3, 9, false),
+            Seen(Wanted::Punctuator(")"), 3, 10, false),
+            Seen(Wanted::Punctuator(";"), 3, 11, false),
+        ],
+        end: (3, 12),
+    },
     Good {
         source: "a\nb",
         tokens: &[

@@ -3,6 +3,26 @@
 use super::Row;
 
 pub static OBJECTS: &[Row] = &[
+    // the script that docs/TOKENS.md, GRAMMAR.md and TREE.md go through
+    Row {
+        source: "let o = {};\no.a = 7\nprint(o.a);",
+        tree: "0 1:9 object 0\n\
+               1 1:1 let o@top0 0\n\
+               2 2:1 name o@top0\n\
+               3 2:1 member 2 .a write 0\n\
+               4 2:7 number 7\n\
+               5 2:1 assign Plain 3 4\n\
+               6 2:1 expression 5\n\
+               7 3:1 name print@global\n\
+               8 3:7 name o@top0\n\
+               9 3:7 member 8 .a read 1\n\
+               10 3:1 call 7 [9]\n\
+               11 3:1 expression 10\n\
+               literal 0 1:9 definitions 0\n\
+               site 0 2:2 write\n\
+               site 1 3:8 read\n\
+               script names 1 items [1 6 11]\n",
+    },
     // a comma that no element stands directly before is a hole
     Row {
         source: "[, a,, b, ]; [[]];",
