@@ -24,3 +24,4 @@ pub mod Cycles
 pub mod SoundCycles
 pub mod ChainsEnd
 pub mod SoundErrors
+pub mod LongestLiteral

@@ -25,3 +25,4 @@ pub mod Unwinding
 pub mod Weights
 pub mod World
 pub mod programs
+pub mod Definitions

@@ -1,5 +1,3 @@
-//! The faults of a file.
-
 /// Why a source is outside the profile. The number of a code is its place in this list, from 1.
 #[derive(Clone, Copy, Debug, PartialEq, Eq)]
 pub enum FaultCode {

@@ -1,5 +1,3 @@
-//! A place in a source.
-
 /// Where something stands in a source: its line and its column, both from 1.
 #[derive(Clone, Copy, Debug, PartialEq, Eq)]
 pub struct Place {

@@ -1,5 +1,3 @@
-//! Why a reader stops.
-
 use crate::SourceFault;
 use property_keys::NoMemory;
 

@@ -1,5 +1,3 @@
-//! Tokens (clause 12).
-
 use property_keys::Units;
 
 /// What a token is (ECMA-262, 12.7 to 12.9).

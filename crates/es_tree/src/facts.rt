@@ -1,5 +1,3 @@
-//! What is known of functions, object literals and sites.
-
 /// What is known of a function of the script: the place of its first token, how many parameters it has, at how many distinct names its own body
 /// assigns to `this.N`, and whether it can construct and is strict.
 #[derive(Clone, Copy, Debug, PartialEq, Eq)]

@@ -3,7 +3,6 @@
 
 mod body;
 mod checked;
-mod definitions;
 mod expressions;
 mod facts;
 mod items;

@@ -1,5 +1,3 @@
-//! Names with what they are bound to.
-
 use crate::NodeId;
 use property_keys::Units;
 

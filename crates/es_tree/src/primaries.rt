@@ -1,5 +1,3 @@
-//! Primary expressions and property definitions (13.2).
-
 use crate::{FunctionNo, Items, LiteralNo, Named, NodeId};
 use property_keys::Units;
 

@@ -1,5 +1,3 @@
-//! Texts of the outside, made of strings.
-
 ghost use Rattle.std.specs.Prelude.{◌≡◌, IfOk};
 
 use crate::Text;

@@ -1,5 +1,3 @@
-//! Files and sinks, each call failing in turn.
-
 use super::*;
 use std::alloc::Global;
 use std::fs;

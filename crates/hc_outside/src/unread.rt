@@ -1,5 +1,3 @@
-//! What is left of a begun file.
-
 ghost use Rattle.std.specs.Prelude.{◌≡◌, ◌≤◌, ℕ, length, take, drop, min, List};
 
 use std::marker::Model;

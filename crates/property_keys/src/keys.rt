@@ -1,5 +1,3 @@
-//! Property keys and attributes (6.1.7).
-
 use crate::{SymbolId, TextId};
 
 /// A property key (ECMA-262, 6.1.7): an array index, another text, or a Symbol.

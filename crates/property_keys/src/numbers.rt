@@ -1,5 +1,3 @@
-//! The number of a text (7.1.4.1.1).
-
 ghost use Rattle.std.specs.Prelude.{◌≡◌, ◌≢◌, ◌≤◌, ℕ, length, pos, neg_ℤ, ◌≤ℤ◌, option_map, IfSome};
 ghost use Rattle.std.specs.Char.{digit_value};
 ghost use Rattle.property_keys.specs.Numbers.{natural_of, decimal_of, radix_of_letter, radix_of, literal_of, number_of};

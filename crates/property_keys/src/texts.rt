@@ -1,5 +1,3 @@
-//! The table of texts.
-
 ghost use Rattle.std.specs.Prelude.{◌≡◌, ◌<◌, ◌+◌, ◌^◌, ◌++◌, ◌↔◌, [], length, IfOk, IsErrOf, IfSome, IsNone};
 ghost use Rattle.std.specs.Result.{result_ok};
 ghost use Rattle.property_keys.specs.Decimals.{whole_units};

@@ -1,5 +1,3 @@
-//! Lists of code units.
-
 ghost use Rattle.std.specs.Prelude.{◌≡◌, ◌<◌, ◌≤◌, ◌+◌, ◌^◌, ◌++◌, ◌∷◌, [], ℕ, List, length, slice_get, Some, IfOk, OnOk, OnErr, IsErrOf, ◌↔◌};
 
 use crate::{KeyFault, NoMemory};

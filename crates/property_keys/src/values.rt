@@ -1,5 +1,3 @@
-//! Values, and when two are the same.
-
 ghost use Rattle.std.specs.Prelude.{◌≡◌, ◌↔◌, IsTrue};
 ghost use Rattle.property_keys.specs.Values.{same_value};
 

@@ -1,5 +1,3 @@
-//! A validity cell.
-
 use crate::ObjectList;
 
 /// The number of a validity cell.

@@ -1,5 +1,3 @@
-//! A list of objects.
-
 ghost use Rattle.std.specs.Prelude.{◌≡◌, ◌++◌, ◌∷◌, ◌<◌, [], ℕ, length, nat_eq, slice_index, IfOk, OnErr, OnOk};
 ghost use Rattle.std.specs.List.{list_any};
 

@@ -1,5 +1,3 @@
-//! The cells of each object.
-
 ghost use Rattle.std.specs.Prelude.{◌≡◌, ◌≢◌, ◌<◌, ℕ, Some, OnOk};
 ghost use Rattle.property_keys.specs.declared.identifiers.ObjectId.{ObjectId};
 ghost use Rattle.prototype_validity.specs.Registered.{IsListed, count_of, cell_at};

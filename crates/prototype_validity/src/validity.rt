@@ -1,5 +1,3 @@
-//! All cells.
-
 ghost use Rattle.std.specs.Prelude.{◌≡◌, ◌<◌, ◌++◌, ◌∷◌, [], ℕ, true, length, IfOk, IfSome, IsNone, OnErr, OnOk};
 ghost use Rattle.property_keys.specs.Counts.{counted};
 ghost use Rattle.prototype_validity.specs.Cells.{Drops, GivesCell, HasNoCell, IsCellOf, after_change, cell_of, includes, new_cell};

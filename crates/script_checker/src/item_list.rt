@@ -1,5 +1,3 @@
-//! A list of what parts became.
-
 ghost use Rattle.std.specs.Prelude.{◌≡◌, ◌++◌, ◌∷◌, [], length, OnOk};
 
 use crate::Item;

@@ -1,5 +1,3 @@
-//! What is made of a tree.
-
 ghost use Rattle.std.specs.Prelude.{◌≡◌, ◌<◌, ◌+◌, ◌^◌, length, IfOk, OnOk};
 ghost use Rattle.es_tree.specs.Tree.{IsTree};
 ghost use Rattle.script_checker.specs.Made.{add_function, add_literal, add_node, next_node, add_site_where, is_read, is_written, made_of, next_function, nothing_made, script_tree, site_where, with_access, with_node, with_operator, with_primary, with_statement};

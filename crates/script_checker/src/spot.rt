@@ -1,5 +1,3 @@
-//! Where a part stands.
-
 use crate::Setting;
 use es_source::Place;
 

@@ -1,5 +1,3 @@
-//! What is to be done next.
-
 use crate::Value;
 use script_rules::{Role, ScopeId};
 

@@ -1,5 +1,3 @@
-//! What parts of a script become.
-
 use crate::ItemList;
 use es_tree::{Block, Catch, Declared, FunctionNo, Key, Named, NodeId, Property};
 

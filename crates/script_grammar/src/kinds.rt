@@ -1,5 +1,3 @@
-//! What a token is to the grammar.
-
 use es_tree::{AssignOperator, BinaryOperator, ShortOperator};
 
 /// A word that is reserved and is no operator between two operands (ECMA-262, 12.7.2).

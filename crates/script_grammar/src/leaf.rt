@@ -1,5 +1,3 @@
-//! The leaves of a script.
-
 use property_keys::Units;
 
 /// What a token of a script says.

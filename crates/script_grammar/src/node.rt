@@ -1,5 +1,3 @@
-//! The nodes of the grammar's tree.
-
 use crate::{Atom, Pair, Quad, Triple, Wrap};
 
 /// A node of a script: its label and the numbers of its parts, each below its own.

@@ -1,5 +1,3 @@
-//! A script in the grammar's form.
-
 ghost use Rattle.std.specs.Prelude.{◌≡◌, ◌<◌, length, slice_get, Some};
 ghost use Rattle.script_grammar.specs.Scripts.{parts_of};
 

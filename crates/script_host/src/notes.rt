@@ -1,5 +1,3 @@
-//! The notes on the error output.
-
 ghost use Rattle.std.specs.Prelude.{◌≡◌, ℕ, List, IfOk, OnOk, string_bytes};
 ghost use Rattle.property_keys.specs.Counts.{counted};
 ghost use Rattle.hc_outside.specs.Causes.{HasCause};

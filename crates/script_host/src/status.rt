@@ -1,5 +1,3 @@
-//! How a call ends.
-
 /// How a call of the host ends. The exit statuses are 0 to 7, in this order.
 #[derive(Clone, Copy, Debug, PartialEq, Eq)]
 pub enum Status {

@@ -1,5 +1,3 @@
-//! How a name is declared.
-
 /// How a name comes to be declared.
 #[derive(Clone, Copy, PartialEq)]
 pub enum Manner {

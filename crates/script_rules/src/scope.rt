@@ -1,5 +1,3 @@
-//! A scope with its names.
-
 use crate::ScopeNames;
 use property_keys::Units;
 

@@ -1,5 +1,3 @@
-//! The table of scopes.
-
 ghost use Rattle.std.specs.Prelude.{◌≡◌, ◌<◌, [], length};
 ghost use Rattle.script_rules.specs.Chains.{Entered, IsEntry, IsKnown, chain_at, chain_from, names_in};
 ghost use Rattle.script_rules.specs.Scopes.{in_force, is_in_function, resolved};

@@ -1,5 +1,3 @@
-//! The list of tokens.
-
 ghost use Rattle.std.specs.Prelude.{◌≡◌, ◌<◌, List, length, slice_get, Some};
 ghost use Rattle.script_syntax.specs.Readings.{listed};
 

@@ -1,5 +1,3 @@
-//! Origins with their places.
-
 ghost use Rattle.std.specs.Prelude.{◌≡◌, ◌↔◌, ◌<◌, [], length, IfOk, OnErr, OnOk, IsTrue};
 ghost use Rattle.slack_tracking.specs.Slack.{IsKnown, origin_at, origin_place, with_origin, with_fields, with_construction, falls, same_kind, same_place};
 

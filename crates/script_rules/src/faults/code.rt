@@ -1,5 +1,3 @@
-//! The code of a function: what it has of its own.
-
 /// The parameters of a function.
 #[derive(Clone, Copy)]
 pub enum Parameters {
