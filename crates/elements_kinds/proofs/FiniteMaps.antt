@@ -1,5 +1,5 @@
 -- Finite maps from indices: what tells them apart, their keys, and their end.
-use Rattle.std.proofs.Common.{◌≡◌, ◌<◌, ◌≤◌, ◌+◌, ◌-◌, ◌&&◌, ◌∷◌, [], ℕ, Bool, true, false, cond, T, eqb, max, List, Option, Some, None, is_some, map, refl, sym, ap, ◌∙◌, subst, inl, inr, arith, nat_cmp, is_lt, Less, true≢false}
+use Rattle.std.proofs.Common.{◌≡◌, ◌<◌, ◌≤◌, ◌+◌, ◌-◌, ◌&&◌, ◌∷◌, [], ℕ, Bool, true, false, cond, T, eqb, List, Some, None, is_some, map, sym, ap, ◌∙◌, subst, inl, inr, arith, nat_cmp, is_lt, Less, true≢false}
 use Rattle.std.specs.Ordering.{eq_by_cmp}
 use Rattle.std.specs.FinMap as map_of
 use Rattle.std.specs.FinMap.{FinMap, find, is_sorted, get-from_entries, get-from_sorted, get-entries, entries-from_sorted, same_map, nat_cmp-IsAntisymmetric}

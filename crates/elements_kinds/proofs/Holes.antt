@@ -1,7 +1,6 @@
 -- Words that are holes, and blocks that are filled with them.
-use Rattle.std.proofs.Common.{◌≡◌, ◌<◌, ◌≤◌, ◌+◌, ◌-◌, ◌++◌, ◌∷◌, [], ℕ, suc, zero, List, Option, None, length, length-append, get_or, set, take, drop, map, replicate, refl, sym, ap, ◌∙◌, arith, append_assoc}
-use Rattle.std.proofs.lemmas.List.{drop_more, set_at, replicate_more, map-append, length-replicate, length-take-le, drop_all, append-nil, take-append-drop}
-use Rattle.property_keys.specs.declared.values.Value.{Value}
+use Rattle.std.proofs.Common.{◌≡◌, ◌<◌, ◌≤◌, ◌+◌, ◌-◌, ◌++◌, ◌∷◌, [], ℕ, suc, zero, List, None, length, length-append, get_or, set, take, drop, map, replicate, refl, sym, ap, ◌∙◌, arith, append_assoc}
+use Rattle.std.proofs.lemmas.List.{drop_more, set_at, replicate_more, length-replicate, length-take-le}
 use Rattle.elements_kinds.specs.declared.kinds.Class.{Class}
 use Rattle.elements_kinds.specs.declared.kinds.Class.TheVariants as class
 use Rattle.elements_kinds.specs.Words.{decoded, hole_of}

@@ -1,12 +1,11 @@
 -- The properties of a list of values.
-use Rattle.std.proofs.Common.{◌≡◌, ◌≢◌, ◌<◌, ◌≤◌, ◌+◌, ◌-◌, ◌++◌, ◌∷◌, [], ℕ, zero, suc, Bool, true, false, cond, T, eqb, ltb, List, Option, Some, None, is_some, length, length-append, get_or, set, length-set, take, map, replicate, refl, sym, ap, ◌∙◌, subst, inl, inr, arith, zero-add, nat_cmp, option_map}
-use Rattle.std.specs.Ordering.{eq_by_cmp}
+use Rattle.std.proofs.Common.{◌≡◌, ◌≢◌, ◌<◌, ◌≤◌, ◌+◌, ◌-◌, ◌++◌, ◌∷◌, [], ℕ, zero, suc, Bool, true, false, cond, T, eqb, List, Option, Some, None, is_some, length, get_or, set, take, map, replicate, refl, sym, ap, ◌∙◌, inl, inr, arith, zero-add, nat_cmp, option_map}
 use Rattle.std.specs.FinMap as map_of
-use Rattle.std.specs.FinMap.{FinMap, find, is_sorted}
+use Rattle.std.specs.FinMap.{find, is_sorted}
 use Rattle.std.specs.FinMap.Entries.{below_all}
 use Rattle.std.proofs.lemmas.Bool.{cases_Bool, cases_lt}
 use Rattle.std.proofs.lemmas.Bool.Decides.{nat_tests}
-use Rattle.std.proofs.lemmas.List.{get_or-set_same, get_or-set_other, get_or-take, get_or-replicate, get_or-append_right, get_or_append_left, get_or_past, length-replicate, length-take-le, take_more, map-append, append_assoc}
+use Rattle.std.proofs.lemmas.List.{get_or-set_other, get_or-take, get_or-replicate, get_or-append_right, get_or_append_left, get_or_past, length-replicate, length-take-le, take_more}
 use Rattle.property_keys.specs.declared.values.Value.{Value}
 use Rattle.descriptors.specs.declared.property.Complete.{Complete}
 use Rattle.elements_kinds.specs.Maps.{with_value}

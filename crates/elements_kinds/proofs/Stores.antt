@@ -1,5 +1,5 @@
 -- What is seen of a store, and how a definition and a removal change it.
-use Rattle.std.proofs.Common.{◌≡◌, ◌≢◌, ◌⊎◌, ◌<◌, ◌≤◌, ◌+◌, ◌-◌, ◌/◌, ◌^◌, ◌++◌, ◌&&◌, ◌||◌, not, ℕ, Bool, true, false, cond, eqb, ltb, leb, max, List, [], Option, Some, None, is_some, length, length-append, get_or, set, length-set, replicate, refl, sym, ap, ◌∙◌, subst, inl, inr, arith, nat_lt, nat_le}
+use Rattle.std.proofs.Common.{◌≡◌, ◌≢◌, ◌⊎◌, ◌<◌, ◌≤◌, ◌+◌, ◌-◌, ◌/◌, ◌^◌, ◌++◌, ◌&&◌, ◌||◌, not, ℕ, Bool, true, false, cond, eqb, max, [], Option, Some, None, is_some, length, length-append, get_or, set, length-set, replicate, refl, sym, ap, ◌∙◌, inl, inr, arith, nat_lt, nat_le}
 use Rattle.std.specs.Ordering.{nat_cmp}
 use Rattle.std.specs.FinMap as map_of
 use Rattle.std.specs.FinMap.{FinMap}
@@ -14,10 +14,10 @@ use Rattle.elements_kinds.specs.declared.kinds.ElementsKind.{ElementsKind}
 use Rattle.elements_kinds.specs.declared.kinds.ElementsKind.TheVariants as kind
 use Rattle.elements_kinds.specs.Kinds.{class_in, class_of, holey_from, is_dictionary, is_holey, join, kind_of}
 use Rattle.elements_kinds.specs.Properties.{plain, properties_of}
-use Rattle.elements_kinds.specs.Rules.{View, start, capacity_for, class_for, defined, end_of, is_dictionary_after, kind_for, leaves_hole, leaves_store, removed}
+use Rattle.elements_kinds.specs.Rules.{View, start, capacity_for, defined, end_of, is_dictionary_after, kind_for, leaves_hole, leaves_store, removed}
 use Rattle.elements_kinds.specs.Sound.{IsSound, grown}
 use Rattle.elements_kinds.specs.Steps.{steps_down, steps_to_remove}
-use Rattle.elements_kinds.proofs.Listed.{Values, listed_with, listed_without, get-set, get-grown, end_sound, end_within, present-listed, empty_listed}
+use Rattle.elements_kinds.proofs.Listed.{Values, listed_with, listed_without, get-set, get-grown, end_sound, present-listed, empty_listed}
 
 -- what is seen of a store with these values
 abbrev pub store_view : Values → Class → Bool → View

@@ -1,17 +1,16 @@
 -- Properties in a tree of entries.
-use Rattle.std.proofs.Common.{◌≡◌, ◌<◌, ◌≤◌, ◌+◌, ◌-◌, ◌∷◌, ℕ, Bool, true, false, cond, eqb, List, [], length, Option, Some, None, is_some, refl, sym, ap, ◌∙◌, arith, nat_cmp, is_lt}
+use Rattle.std.proofs.Common.{◌≡◌, ◌<◌, ◌≤◌, ◌+◌, ◌-◌, ◌∷◌, ℕ, true, false, cond, eqb, List, [], length, Option, Some, None, is_some, refl, sym, ap, ◌∙◌, arith, nat_cmp, is_lt}
 use Rattle.std.specs.Ordering.{eq_by_cmp}
 use Rattle.std.specs.BTreeMap as tree
 use Rattle.std.specs.BTreeMap.{BTreeMap}
 use Rattle.std.specs.Map.{keys_of, lookup}
 use Rattle.std.specs.FinMap as map_of
-use Rattle.std.specs.FinMap.{FinMap, find}
-use Rattle.std.proofs.lemmas.Bool.{cases_lt}
+use Rattle.std.specs.FinMap.{find}
 use Rattle.std.proofs.lemmas.Bool.Decides.{nat_tests}
 use Rattle.descriptors.specs.declared.property.Complete.{Complete}
 use Rattle.elements_kinds.specs.Maps.{properties_in}
 use Rattle.elements_kinds.specs.Properties.{properties_of}
-use Rattle.elements_kinds.specs.Rules.{end_of, greatest_of}
+use Rattle.elements_kinds.specs.Rules.{greatest_of}
 use Rattle.elements_kinds.proofs.FiniteMaps.{get-from, get-insert, get-remove, same_properties, entries-from, sorted_from_ordered, end_is, greatest_is, greatest_none}
 
 found : (q : ℕ) (es : List (ℕ × Complete)) → find nat_cmp q es ≡ lookup (tree.is_at (nat_cmp q)) es

@@ -1,4 +1,4 @@
-use Rattle.std.proofs.Common.{◌≡◌, ◌++◌, map}
+use Rattle.std.proofs.Common.{◌≡◌, ◌++◌}
 use Rattle.std.specs.BTreeMap.{keys}
 use Rattle.elements_kinds.proofs.maps.indices_in.Given as goal
 

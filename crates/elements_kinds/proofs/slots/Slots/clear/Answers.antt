@@ -1,8 +1,7 @@
-use Rattle.std.proofs.Common.{◌≡◌, ℕ, None, map, set, refl, ap, ◌∙◌}
+use Rattle.std.proofs.Common.{None, map, set, ap, ◌∙◌}
 use Rattle.std.proofs.lemmas.List.{map-set}
-use Rattle.elements_kinds.specs.declared.kinds.Class.{Class}
 use Rattle.elements_kinds.specs.Properties.{Held}
-use Rattle.elements_kinds.specs.Words.{decoded, hole_of}
+use Rattle.elements_kinds.specs.Words.{decoded}
 use Rattle.elements_kinds.proofs.Holes.{decoded-hole}
 use Rattle.elements_kinds.proofs.slots.Slots.clear.Goals as goal
 

@@ -1,8 +1,8 @@
-use Rattle.std.proofs.Common.{◌≡◌, ◌-◌, ◌++◌, ℕ, List, None, length, map, replicate, ap, sym, ◌∙◌, OnOk}
+use Rattle.std.proofs.Common.{◌-◌, ◌++◌, ℕ, List, None, length, map, replicate, ap, sym, ◌∙◌}
 use Rattle.std.proofs.lemmas.List.{map-append, length-map}
 use Rattle.std.proofs.lemmas.Result.{on_ok_weaker}
 use Rattle.elements_kinds.specs.Properties.{Held}
-use Rattle.elements_kinds.specs.Words.{decoded, hole_of}
+use Rattle.elements_kinds.specs.Words.{decoded}
 use Rattle.elements_kinds.proofs.Holes.{map-holes}
 use Rattle.elements_kinds.proofs.slots.Slots.grow.Goals as goal
 

@@ -1,6 +1,5 @@
-use Rattle.std.proofs.Common.{◌≡◌, ◌<◌, ◌≤◌, ◌+◌, ◌++◌, ℕ, cond, is_some, length, take, sym, ap, ◌∙◌, arith}
-use Rattle.std.specs.FinMap as map_of
-use Rattle.property_keys.specs.Counts.{TakesAtMost, counted}
+use Rattle.std.proofs.Common.{◌≡◌, ◌<◌, ◌≤◌, ◌+◌, length, take, sym, ap, ◌∙◌, arith}
+use Rattle.property_keys.specs.Counts.{counted}
 use Rattle.slot_storage.specs.Steps.{counted_times}
 use Rattle.elements_kinds.specs.Properties.{properties_of}
 use Rattle.elements_kinds.specs.Rules.{View, end_of}

@@ -1,7 +1,7 @@
-use Rattle.std.proofs.Common.{◌≡◌, ◌≢◌, ◌<◌, ◌≤◌, ◌+◌, ◌-◌, ℕ, Bool, true, false, None, is_some, length, get_or, sym, ap, ◌∙◌, arith, not}
+use Rattle.std.proofs.Common.{◌≡◌, ◌<◌, ◌≤◌, Bool, true, false, None, is_some, length, get_or, sym, ap, ◌∙◌, arith, not}
 use Rattle.property_keys.specs.Counts.{counted}
 use Rattle.slot_storage.specs.Steps.{counted_times}
-use Rattle.elements_kinds.specs.Rules.{View, removed}
+use Rattle.elements_kinds.specs.Rules.{removed}
 use Rattle.elements_kinds.specs.Sound.{IsSound}
 use Rattle.elements_kinds.specs.Steps.{steps_down, steps_to_remove}
 use Rattle.elements_kinds.proofs.Steps.{in_turn, twice_counted}
