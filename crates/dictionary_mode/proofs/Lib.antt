@@ -1,1 +1,4 @@
+pub mod Marks
+pub mod Mending
 pub mod Slots
+pub mod Trees

@@ -1,18 +1,17 @@
 -- Lemmas on the slots of a dictionary.
-use Rattle.std.proofs.Common.{◌≡◌, ◌≢◌, ◌<◌, ◌≤◌, ◌+◌, ◌^◌, ◌++◌, ◌∷◌, [], ℕ, Bool, true, cond, List, Option, Some, None, Ok, Err, length, length-append, get_or, set, length-set, refl, sym, ap, ◌∙◌, subst, inl, inr, arith, nat_cmp, true≢false}
+use Rattle.std.proofs.Common.{◌≡◌, ◌≢◌, ◌<◌, ◌≤◌, ◌+◌, ◌++◌, ◌∷◌, [], ℕ, Bool, true, cond, List, Option, Some, None, length, length-append, get_or, set, length-set, refl, sym, ap, ◌∙◌, subst, inl, inr, arith, true≢false}
 use Rattle.std.specs.Prelude.{remove, slice_index, IsSome, OnSome}
 use Rattle.std.specs.Cmp.{unsigned_Decides}
-use Rattle.std.specs.List.Sorted.{IsBinarySearchResult}
 use Rattle.std.proofs.lemmas.Bool.{cases_Bool, cases_lt}
 use Rattle.std.proofs.lemmas.List.{length-map, get_or-map, ext_get_or, get_or-set_same, get_or-set_other}
 use Rattle.std.proofs.lemmas.List.Edits.{length-remove, get_or-remove_below, get_or-remove_above}
-use Rattle.std.proofs.lemmas.List.Sorted.{searched}
 use Rattle.std.proofs.Math.ListN.{get_or-append}
 use Rattle.std.proofs.Math.Seq.{get_or-append_seam}
 use Rattle.property_keys.specs.declared.keys.PropKey.{PropKey}
 use Rattle.property_keys.specs.declared.keys.PropKey.TheVariants.{Index, Name, Sym}
 use Rattle.property_keys.specs.contracts.keys.PropKeyPartialEq.TheImpl.{eq-value}
 use Rattle.descriptors.specs.declared.property.Complete.{Complete}
+use Rattle.dictionary_mode.specs.Counts.{Lacks}
 use Rattle.dictionary_mode.specs.Entries.{no_entry, entry_at, key_at, IsPlaceOf, LacksKey, HasOneEach, with_property}
 use Rattle.dictionary_mode.specs.Places.{in_use, IsSound}
 
@@ -45,27 +44,24 @@ key_in_use slots order i lt = ap (λ (e : PropKey × Complete). e.0) (entry_in_u
 pub known_in_use : (slots : Slots) (order : List ℕ) (i : ℕ) → i < length (in_use slots order) → i < length order
 known_in_use slots order i lt = omega (arith, length-in_use slots order)
 
-pub sound_none : (index : PropKey → Option ℕ) → ((q : PropKey) → index q ≡ None) → IsSound index [] []
-sound_none index none = record {
+pub sound_none : (index : PropKey → Option ℕ) (most : ℕ) → ((q : PropKey) → index q ≡ None) → IsSound index [] [] most
+sound_none index most none = record {
   rising = λ i j l lt. absurd (omega arith);
   within = λ i lt. absurd (omega arith);
   indexed = λ i lt. absurd (omega arith);
   filled = λ q s h. let x = sym h ∙ none q in cc;
   named = λ q s h. let x = sym h ∙ none q in cc;
-  room = lit_room;
+  room = omega arith;
   fits = omega arith;
 }
-  where
-    lit_room : 0 < 2 ^ 32
-    lit_room = omega arith
 
 pub on_some : {X : Type 0} (r : Option X) (P : Type 0) → IsSome r → OnSome r P → P
 on_some (Some x) P h p = p
 on_some None P h p = absurd (true≢false (sym h))
 
 -- an index that gives the same
-pub sound_same : (index now : PropKey → Option ℕ) (slots : Slots) (order : List ℕ) → ((q : PropKey) → now q ≡ index q) → IsSound index slots order → IsSound now slots order
-sound_same index now slots order same sound = record {
+pub sound_same : (index now : PropKey → Option ℕ) (slots : Slots) (order : List ℕ) (most : ℕ) → ((q : PropKey) → now q ≡ index q) → IsSound index slots order most → IsSound now slots order most
+sound_same index now slots order most same sound = record {
   rising = sound.rising;
   within = sound.within;
   indexed = λ i lt. same _ ∙ sound.indexed i lt;
@@ -75,7 +71,7 @@ sound_same index now slots order same sound = record {
   fits = sound.fits;
 }
 
-module _ (index : PropKey → Option ℕ) (slots : Slots) (order : List ℕ) (sound : IsSound index slots order) where
+module _ (index : PropKey → Option ℕ) (slots : Slots) (order : List ℕ) (most : ℕ) (sound : IsSound index slots order most) where
   pub one_each : HasOneEach (in_use slots order)
   one_each i j a b same =
       let li : i < length order = known_in_use slots order i a in
@@ -87,20 +83,11 @@ module _ (index : PropKey → Option ℕ) (slots : Slots) (order : List ℕ) (so
       let above : j < i → ⊥ = λ lt. omega (arith, sound.rising j i lt li) in
       omega arith
 
-  pub rises : (i j : ℕ) → i ≤ j → j < length order → get_or order i 0 ≤ get_or order j 0
-  rises i j le lt =
-      elim (cases_lt i j) [
-        | inl l ↦ omega (arith, sound.rising i j l lt)
-        | inr g ↦ let e : i ≡ j = omega arith in omega (arith, ap (λ k. get_or order k 0) e)
-      ]
-
-  pub found : (key : PropKey) (slot place : ℕ) → index key ≡ Some slot → IsBinarySearchResult (λ y. nat_cmp y slot) order (Ok place) → IsPlaceOf (in_use slots order) key place
-  found key slot place h search =
-      let at = searched order slot (Ok place) search rises in
-      record {
-        known = omega (arith, length-in_use slots order, at.0);
-        names = key_in_use slots order place at.0 ∙ ap (key_at slots) at.1 ∙ sound.named key slot h;
-      }
+  pub found : (key : PropKey) (slot place : ℕ) → index key ≡ Some slot → place < length order → slice_index order place ≡ slot → IsPlaceOf (in_use slots order) key place
+  found key slot place h lt is = record {
+    known = omega (arith, length-in_use slots order);
+    names = key_in_use slots order place lt ∙ ap (key_at slots) is ∙ sound.named key slot h;
+  }
 
   pub lacks_from_index : (key : PropKey) → index key ≡ None → LacksKey (in_use slots order) key
   lacks_from_index key none place known names =
@@ -109,20 +96,16 @@ module _ (index : PropKey → Option ℕ) (slots : Slots) (order : List ℕ) (so
       let x : Some (slice_index order place) ≡ None = sym (sound.indexed place l) ∙ ap index k ∙ none in
       cc
 
-  pub lacks_from_search : (key : PropKey) (slot at : ℕ) → index key ≡ Some slot → IsBinarySearchResult (λ y. nat_cmp y slot) order (Err at) → LacksKey (in_use slots order) key
-  lacks_from_search key slot at h search place known names =
+  pub lacks_from_order : (key : PropKey) (slot : ℕ) → index key ≡ Some slot → Lacks order slot → LacksKey (in_use slots order) key
+  lacks_from_order key slot h lacks place known names =
       let l : place < length order = known_in_use slots order place known in
       let k : key_at slots (slice_index order place) ≡ key = sym (key_in_use slots order place l) ∙ names in
       let x : Some (slice_index order place) ≡ Some slot = sym (sound.indexed place l) ∙ ap index k ∙ h in
-      let y : get_or order place 0 ≡ slot = cc in
-      let parted = searched order slot (Err at) search rises in
-      elim (cases_lt place at) [
-        | inl lt ↦ omega (arith, parted.1 place lt)
-        | inr ge ↦ omega (arith, parted.2 place ge l)
-      ]
+      let y : slice_index order place ≡ slot = cc in
+      lacks place l y
 
   -- a slot more, out of use
-  pub sound_pushed : (e : PropKey × Complete) → length slots + 1 < 2 ^ 32 → IsSound index (slots ++ e ∷ []) order
+  pub sound_pushed : (e : PropKey × Complete) → length slots + 1 ≤ most → IsSound index (slots ++ e ∷ []) order most
   sound_pushed e room = record {
     rising = sound.rising;
     within = λ i lt. omega (arith, sound.within i lt, length-append slots (e ∷ []));
@@ -141,7 +124,7 @@ module _ (index : PropKey → Option ℕ) (slots : Slots) (order : List ℕ) (so
 
   -- the index has a slot for a key that is not in use
   pub sound_indexed : (key : PropKey) (s : ℕ) (now : PropKey → Option ℕ) → LacksKey (in_use slots order) key → s < length slots → key_at slots s ≡ key
-      → ((q : PropKey) → now q ≡ cond (key_eq key q) (Some s) (index q)) → IsSound now slots order
+      → ((q : PropKey) → now q ≡ cond (key_eq key q) (Some s) (index q)) → IsSound now slots order most
   sound_indexed key s now lacks inside names update = record {
     rising = sound.rising;
     within = sound.within;
@@ -164,7 +147,7 @@ module _ (index : PropKey → Option ℕ) (slots : Slots) (order : List ℕ) (so
 
   -- a slot comes into use, behind all others
   pub sound_listed : (s : ℕ) → ((i : ℕ) → i < length order → slice_index order i < s) → s < length slots → length order < length slots → index (key_at slots s) ≡ Some s
-      → IsSound index slots (order ++ s ∷ [])
+      → IsSound index slots (order ++ s ∷ []) most
   sound_listed s below inside fits h = record {
     rising = λ i j l lt. elim (cases_lt j (length order)) [
       | inl lj ↦ omega (arith, left i (omega arith), left j lj, sound.rising i j l lj)
@@ -192,7 +175,7 @@ module _ (index : PropKey → Option ℕ) (slots : Slots) (order : List ℕ) (so
 
   module _ (place : ℕ) (inside : place < length order) where
     -- a slot goes out of use
-    pub sound_removed : IsSound index slots (remove order place)
+    pub sound_removed : IsSound index slots (remove order place) most
     sound_removed = record {
       rising = λ i j l lt. elim (cases_lt i place) [
         | inl a ↦ elim (cases_lt j place) [
@@ -255,7 +238,7 @@ module _ (index : PropKey → Option ℕ) (slots : Slots) (order : List ℕ) (so
             ]
           ]
 
-      pub sound_written : IsSound index written order
+      pub sound_written : IsSound index written order most
       sound_written = record {
         rising = sound.rising;
         within = λ i lt. omega (arith, sound.within i lt, length-set slots slot (key_at slots slot, property));

@@ -1,29 +1,28 @@
-ghost use Rattle.std.specs.Prelude.{◌≡◌, ◌<◌, ◌≤◌, ◌+◌, ◌^◌, ◌++◌, ◌∷◌, ◌↔◌, [], length, take, IsOkAnd, IfOk, IfSome, IsNone, OnOk, OnErr};
+ghost use Rattle.std.specs.Prelude.{◌≡◌, ◌<◌, ◌++◌, ◌∷◌, ◌↔◌, [], length, take, IsOkAnd, IfOk, IfSome, IsNone, OnOk, OnErr};
 ghost use Rattle.property_keys.specs.Counts.{counted};
 ghost use Rattle.dictionary_mode.specs.Entries.{HasOneEach, IsPlaceOf, LacksKey, Removes, key_at, property_at, with_property};
 
+use crate::numbers::Numbers;
 use descriptors::Complete;
 use indexmap::IndexMap;
 use property_keys::{Ledger, NoMemory, PropKey, Steps};
 use std::alloc::Global;
-use std::collections::VecDeque;
 use std::marker::Model;
 
-/// So many slots may be out of use before the slots are made anew.
-const IDLE_SLOTS: usize = 16;
+/// When the slots are made anew there are so many beside two for each key.
+const SPARE_SLOTS: usize = 8;
 
 /// An ordered list of distinct keys with properties. A place is a number below the length.
 ///
-/// A removal takes the number of a slot out of a queue and leaves the slot itself, so it moves four bytes for each entry on the shorter side of
-/// its place. An insertion that finds more slots out of use than in use makes the slots anew.
+/// A removal takes the number of a slot out of the set of those in use and leaves the slot itself. An insertion that finds no slot left makes them anew.
 #[derive(Drop)]
 pub struct Dictionary {
     alloc: Global,
     /// The slot that a key was last put into.
     index: IndexMap<PropKey, u32>,
     slots: Vec<(PropKey, Complete)>,
-    /// The slots in use, which rise.
-    order: VecDeque<u32>,
+    /// The slots in use.
+    order: Numbers,
 }
 
 impl Model for Dictionary {
@@ -36,9 +35,9 @@ impl Model for Dictionary {
 
     ghost Value = { List (PropKey × Complete) };
 
-    ghost view = { λ d. in_use d.slots.items d.order.items };
+    ghost view = { λ d. in_use d.slots.items d.order.list };
 
-    ghost invariant = { λ d. IsSound (λ key. get eq-value.it d.index key) d.slots.items d.order.items };
+    ghost invariant = { λ d. IsSound (λ key. get eq-value.it d.index key) d.slots.items d.order.list d.order.room };
 }
 
 impl Dictionary {
@@ -46,17 +45,18 @@ impl Dictionary {
     pub fn new(alloc: Global) -> Result<Dictionary, NoMemory>
         ensures { IsOkAnd result (λ d. d ≡ []) }
     {
-        Ok(Dictionary::empty(alloc))
+        Ok(Dictionary::empty(alloc, Numbers::empty(alloc)))
     }
 
-    fn empty(alloc: Global) -> Dictionary
+    fn empty(alloc: Global, order: Numbers) -> Dictionary
+        requires { order.list ≡ [] }
         ensures { result ≡ [] }
     {
         Dictionary {
             alloc,
             index: IndexMap::new(alloc),
             slots: Vec::new(alloc),
-            order: VecDeque::new(alloc),
+            order,
         }
     }
 
@@ -85,10 +85,12 @@ impl Dictionary {
         ensures one { HasOneEach self.now }
     {
         match self.index.get(&key) {
-            Some(slot) => match self.order.binary_search(slot) {
-                Ok(place) => Some(place as u32),
-                Err(_) => None,
-            },
+            Some(slot) => {
+                if !self.order.contains(*slot as usize) {
+                    return None;
+                }
+                Some(self.order.place(*slot as usize) as u32)
+            }
             None => None,
         }
     }
@@ -98,7 +100,7 @@ impl Dictionary {
         requires { place < length self.now }
         ensures { result.now ≡ property_at self.now place }
     {
-        &self.slots[self.order[place as usize] as usize].1
+        &self.slots[self.order.at(place as usize)].1
     }
 
     /// The key at a place below the length.
@@ -106,31 +108,32 @@ impl Dictionary {
         requires { place < length self.now }
         ensures { result ≡ key_at self.now place }
     {
-        self.slots[self.order[place as usize] as usize].0
+        self.slots[self.order.at(place as usize)].0
     }
 
-    /// Puts an absent key last. There is room for 2^32 - 1 keys, and after `NoMemory` the list is as before.
+    /// Puts an absent key last. There is room for no more than 2^30 keys, and after `NoMemory` the list is as before.
     pub fn insert(&mut self, key: PropKey, property: Complete) -> Result<(), NoMemory>
         requires { LacksKey self.old key }
         ensures ok { OnOk result (self.new ≡ self.old ++ (key, property) ∷ []) }
         ensures err { OnErr result (self.new ≡ self.old) }
     {
-        if self.is_mostly_idle() {
+        if self.is_full() {
             *self = self.made_anew()?;
         }
         self.append(key, property)
     }
 
-    fn is_mostly_idle(&self) -> bool {
-        let in_use = self.order.len();
-        self.slots.len() - in_use > in_use + IDLE_SLOTS
+    fn is_full(&self) -> bool {
+        self.slots.len() == self.order.room()
     }
 
     /// The same list with no slot out of use.
     fn made_anew(&self) -> Result<Dictionary, NoMemory>
         ensures { IfOk result (λ d. d ≡ self.now) }
     {
-        let mut anew = Dictionary::empty(self.alloc);
+        let height = (2 * self.order.len() + SPARE_SLOTS).ilog2() + 1;
+        let order = Numbers::new(self.alloc, height)?;
+        let mut anew = Dictionary::empty(self.alloc, order);
         for place in 0..self.len() {
             anew.append(self.key_at(place), *self.at(place))?;
         }
@@ -144,7 +147,7 @@ impl Dictionary {
         ensures err { OnErr result (self.new ≡ self.old) }
     {
         let slot = self.slots.len();
-        if slot >= u32::MAX as usize {
+        if slot >= self.order.room() {
             return Err(NoMemory);
         }
         let Ok(()) = self.slots.push((key, property)) else {
@@ -153,9 +156,7 @@ impl Dictionary {
         let Ok(_) = self.index.insert(key, slot as u32) else {
             return Err(NoMemory);
         };
-        let Ok(()) = self.order.push_back(slot as u32) else {
-            return Err(NoMemory);
-        };
+        self.order.put_last(slot);
         Ok(())
     }
 
@@ -164,7 +165,7 @@ impl Dictionary {
         requires { place < length self.old }
         ensures { self.new ≡ with_property self.old place property }
     {
-        let slot = self.order[place as usize] as usize;
+        let slot = self.order.at(place as usize);
         self.slots[slot].1 = property;
     }
 
@@ -172,9 +173,12 @@ impl Dictionary {
     pub fn remove(&mut self, key: PropKey) -> bool
         ensures { Removes self.old self.new key result }
     {
-        match self.place(key) {
-            Some(place) => {
-                let _slot = self.order.remove(place as usize);
+        match self.index.get(&key).copied() {
+            Some(slot) => {
+                if !self.order.contains(slot as usize) {
+                    return false;
+                }
+                self.order.take_out(slot as usize);
                 true
             }
             None => false,

@@ -2,6 +2,7 @@
 #![tactic(auto)]
 
 mod dictionary;
+mod numbers;
 
 pub use dictionary::Dictionary;
 

@@ -118,7 +118,7 @@ fn a_property_is_replaced_in_its_place(rt: HostRuntime) -> Result<(), Fail> {
     Ok(())
 }
 
-/// One name stays, and forty times another comes and goes, so that the slots are made anew twice.
+/// One name stays, and forty times another comes and goes, so that the slots are made anew.
 fn after_coming_and_going(alloc: Global) -> Result<Dictionary, NoMemory> {
     let mut steps = Steps::new(Counting::new());
     let mut dictionary = Dictionary::new(alloc)?;
@@ -186,6 +186,23 @@ fn fifty_thousand_names_come_and_go(rt: HostRuntime) -> Result<(), Fail> {
     let mut dictionary = filled(rt.alloc(), 50_000)?;
     let mut gone = 0u32;
     for n in 0..50_000u32 {
+        if dictionary.remove(name(n)) {
+            gone = gone.saturating_add(1);
+        }
+    }
+    assert_eq!(rt; gone, 50_000);
+    assert_eq!(rt; dictionary.len(), 0);
+    Ok(())
+}
+
+/// 50,000 names come, and go scattered, by steps of 7,919, which has no factor in common with their number.
+#[test]
+fn fifty_thousand_names_go_scattered(rt: HostRuntime) -> Result<(), Fail> {
+    let mut dictionary = filled(rt.alloc(), 50_000)?;
+    let mut gone = 0u32;
+    let mut n = 0u32;
+    for _ in 0..50_000 {
+        n = (n % 50_000).saturating_add(7_919) % 50_000;
         if dictionary.remove(name(n)) {
             gone = gone.saturating_add(1);
         }

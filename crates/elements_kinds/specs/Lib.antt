@@ -1,0 +1,9 @@
+pub mod Codes
+pub mod Forms
+pub mod Kinds
+pub mod Maps
+pub mod Properties
+pub mod Rules
+pub mod Sound
+pub mod Steps
+pub mod Words
