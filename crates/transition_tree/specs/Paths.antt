@@ -27,7 +27,8 @@ Fits m step.Close = m.extensible ≡ true
 -- the entries that a step makes of a map's: an Add appends the next field, a Redefine changes the entry with its key in its place
 abbrev pub IsStepped : List Entry → Step → Representation → List Entry → Type 0
 IsStepped es (step.Add key kind attributes) r new = new ≡ es ++ entry_of key kind attributes r (length es) ∷ []
-IsStepped es (step.Redefine key kind attributes) r new = (i : ℕ) × IsPlace es key i × (new ≡ slice_set es i (entry_of key kind attributes r (entry_at es i).place))
+IsStepped es (step.Redefine key kind attributes) r new =
+    (i : ℕ) × IsPlace es key i × (new ≡ slice_set es i (entry_of key kind attributes r (entry_at es i).place))
 IsStepped es step.Close r new = new ≡ es
 
 abbrev pub stays_extensible : Step → Bool → Bool
@@ -69,7 +70,8 @@ same_key a b = false
 -- the entry with a key gets another kind and other flags, in its place
 abbrev pub redefined : PropKey → Kind → Attributes → List Entry → List Entry
 redefined key kind attributes [] = []
-redefined key kind attributes (e ∷ es) = if same_key e.key key then record e { kind = kind; attributes = attributes } ∷ es else e ∷ redefined key kind attributes es
+redefined key kind attributes (e ∷ es) =
+    if same_key e.key key then record e { kind = kind; attributes = attributes } ∷ es else e ∷ redefined key kind attributes es
 
 abbrev pub stepped : Form → Step → Form
 stepped f (step.Add key kind attributes) = record f { entries = f.entries ++ entry_of key kind attributes representation.None (length f.entries) ∷ [] }

@@ -23,12 +23,16 @@ pub record IsUnder (tree : TreeView) (ms : MapsView) (map parent : MapId) : Type
   pub row : row_of tree map ≡ after (row_of tree parent) by
   pub fits : Fits (map_at ms parent) by
 
--- The maps are those that the tree made, each with the entries of its path; every front of a live path is live; and of the maps of one row the last alone may be live.
+-- The maps are those that the tree made, each with the entries of its path; every front of a live path is live; and of the maps of one row the
+-- last alone may be live.
 pub record BelongTogether (tree : TreeView) (ms : MapsView) : Type 0 where
   pub count : length tree.maps ≡ length ms.maps
   pub stands : (map : MapId) → IsKnown ms map → StandsAt (map_at ms map) (row_of tree map)
   pub under : (map : MapId) → IsKnown ms map → MatchOption (parent_of tree map) ((row_of tree map).path ≡ []) (IsUnder tree ms map)
-  pub one : (early late : MapId) → early.0 < late.0 → IsKnown ms late → row_of tree early ≡ row_of tree late → (map_at ms early).live ≡ false
+  pub one :
+    (early late : MapId) → early.0 < late.0 → IsKnown ms late →
+    row_of tree early ≡ row_of tree late →
+    (map_at ms early).live ≡ false
 
 -- ---- the live map of a row
 
@@ -104,4 +108,6 @@ pub data IsBelow (tree : TreeView) (map : MapId) : MapId → Type 0 where
 pub record DropsBranch (tree : TreeView) (before now : MapsView) (map : MapId) : Type 0 where
   pub count : length now.maps ≡ length before.maps
   pub arrays : now.lengths ≡ before.lengths
-  pub each : (n : MapId) → IsKnown before n → (IsBelow tree map n × (map_at now n ≡ dead_map (map_at before n))) ⊎ ((IsBelow tree map n → ⊥) × (map_at now n ≡ map_at before n))
+  pub each :
+    (n : MapId) → IsKnown before n →
+    (IsBelow tree map n × (map_at now n ≡ dead_map (map_at before n))) ⊎ ((IsBelow tree map n → ⊥) × (map_at now n ≡ map_at before n))

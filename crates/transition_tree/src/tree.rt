@@ -5,7 +5,8 @@ ghost use Rattle.map_store.specs.declared.entries.Representation.TheVariants as 
 ghost use Rattle.map_store.specs.Views.{IsKnown, KeepsEntries, map_at};
 ghost use Rattle.transition_tree.specs.Paths.{Fits, HasPairWhereDue, is_accessor_step};
 ghost use Rattle.transition_tree.specs.Rows.{HadMap, IsAsBefore, IsIn, KeepsAt, after, kept_at, no_tree, onward, parent_of, root_row, row_of};
-ghost use Rattle.transition_tree.specs.Together.{AddsChild, BelongTogether, CameBy, DropsBranch, GetsRoot, HasLast, HasLive, IsRoot, LacksLive, MakesRoot, live_one};
+ghost use Rattle.transition_tree.specs.Together.{BelongTogether, HasLast, HasLive, LacksLive, live_one};
+ghost use Rattle.transition_tree.specs.Together.{AddsChild, CameBy, DropsBranch, GetsRoot, IsRoot, MakesRoot};
 
 use crate::edges::{edge_of, root_edge, step_before};
 use crate::following::follow;
