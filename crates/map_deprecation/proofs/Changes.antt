@@ -3,7 +3,8 @@ use Rattle.std.proofs.Common.{◌≡◌, ◌<◌, ℕ, zero, suc, ◌+◌, List,
 use Rattle.std.proofs.lemmas.List.{append-nil, length-map, take_all}
 use Rattle.map_store.specs.declared.entries.Entry.{Entry}
 use Rattle.map_store.specs.Views.{no_entry}
-use Rattle.map_deprecation.specs.Moves.{AreOfOnePath, bare, change_of, moves_of}
+use Rattle.transition_tree.specs.Paths.{bare}
+use Rattle.map_deprecation.specs.Moves.{AreOfOnePath, change_of, moves_of}
 
 -- maps of one path have as many entries
 pub same_count : (es fs : List Entry) → AreOfOnePath es fs → length es ≡ length fs

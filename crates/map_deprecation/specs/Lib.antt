@@ -1,3 +1,5 @@
 pub mod Classes
+pub mod Generalising
 pub mod Moves
+pub mod Updating
 pub mod Words

@@ -3,11 +3,8 @@ use Rattle.std.specs.Prelude.{◌≡◌, Bool, true, false, List, [], ◌∷◌,
 use Rattle.map_store.specs.declared.entries.Entry.{Entry}
 use Rattle.map_store.specs.declared.entries.Representation.{Representation}
 use Rattle.map_store.specs.declared.entries.Representation.TheVariants as representation
+use Rattle.transition_tree.specs.Paths.{bare}
 use Rattle.map_deprecation.specs.declared.moves.Move.{Move}
-
--- an entry but for its representation
-abbrev pub bare : Entry → Entry
-bare e = record e { representation = representation.None }
 
 abbrev pub AreOfOnePath : List Entry → List Entry → Type 0
 AreOfOnePath es fs = map bare es ≡ map bare fs

@@ -1,4 +1,4 @@
-ghost use Rattle.std.specs.Prelude.{◌≡◌, ◌↔◌, ◌<◌, ◌≤◌, ◌+◌, ◌++◌, ◌∷◌, [], length, OnOk, OnErr, IfOk, MatchOption, IsTrue, vec_len, vec_capacity};
+ghost use Rattle.std.specs.Prelude.{◌≡◌, ◌↔◌, ◌<◌, ◌≤◌, ◌+◌, ◌++◌, ◌∷◌, [], length, not, OnOk, OnErr, IfOk, MatchOption, IsTrue, vec_len, vec_capacity};
 ghost use Rattle.property_keys.specs.Counts.{counted};
 ghost use Rattle.map_store.specs.Views.{IsKnown, HasEntry, KeepsEntries, map_at, entry_at, rooted, extended, replaced, closed_off, marked_dead, no_maps};
 ghost use Rattle.map_store.specs.Keys.{IsPlace, LacksKey, compared, steps_on};
@@ -219,6 +219,14 @@ impl Maps {
     {
         steps.tick();
         self.maps[map.0 as usize].live
+    }
+
+    /// Whether a map is dead, for calls that are no access of a program and count no step.
+    pub fn is_dead(&self, map: MapId) -> bool
+        requires { IsKnown self.now map }
+        ensures { let m = map_at self.now map in result ≡ not m.live }
+    {
+        !self.maps[map.0 as usize].live
     }
 
     /// An entry of a map, in one step.

@@ -1,3 +1,16 @@
+pub mod Belonging
+pub mod Dropping
 pub mod EdgeEq
+pub mod Entering
+pub mod Forms
+pub mod KeptRows
+pub mod Keys
+pub mod Lookups
+pub mod Methods
+pub mod Results
+pub mod RowsOfPlaces
+pub mod Same
+pub mod SoundTables
 pub mod Stepping
-pub mod Table
+pub mod TreeViews
+pub mod Walking

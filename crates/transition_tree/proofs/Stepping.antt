@@ -1,11 +1,10 @@
 -- A map made by a redefinition.
-use Rattle.std.proofs.Common.{◌≡◌, ◌<◌, ℕ, List, [], ◌∷◌, ◌++◌, Result, Ok, Err, IfOk, OnOk, length, get_or, refl, ap, sym, ◌∙◌, arith}
+use Rattle.std.proofs.Common.{◌≡◌, ℕ, List, [], ◌∷◌, ◌++◌, Result, Ok, Err, IfOk, OnOk, length, get_or, refl, ap, sym, ◌∙◌}
 use Rattle.std.proofs.Math.ListN.{set}
 use Rattle.property_keys.specs.declared.faults.NoMemory.{NoMemory}
 use Rattle.property_keys.specs.declared.keys.Attributes.{Attributes}
 use Rattle.property_keys.specs.declared.keys.PropKey.{PropKey}
 use Rattle.map_store.specs.declared.MapId.{MapId}
-use Rattle.map_store.specs.declared.entries.Entry.{Entry}
 use Rattle.map_store.specs.declared.entries.Kind.{Kind}
 use Rattle.map_store.specs.declared.entries.Representation.{Representation}
 use Rattle.map_store.specs.Keys.{IsPlace}
@@ -13,13 +12,6 @@ use Rattle.map_store.specs.Views.{MapView, MapsView, entry_at, map_at, no_map, r
 use Rattle.transition_tree.specs.declared.paths.Step.{Step}
 use Rattle.transition_tree.specs.declared.paths.Step.TheVariants as step
 use Rattle.transition_tree.specs.Paths.{entry_of, MakesChild}
-
--- a key has one first place
-one_place : (es : List Entry) (key : PropKey) (i j : ℕ) → IsPlace es key i → IsPlace es key j → i ≡ j
-one_place es key i j a b =
-    let below : i < j → ⊥ = λ lt. b.first i lt a.here in
-    let above : j < i → ⊥ = λ lt. a.first j lt b.here in
-    omega arith
 
 at_end : (ms : List MapView) (m : MapView) → get_or (ms ++ m ∷ []) (length ms) no_map ≡ m
 at_end [] m = refl
@@ -43,9 +35,7 @@ redefined before after parent child key kind attributes r i place at here number
         proto = ap (λ (m : MapView). m.proto) last;
         live = ap (λ (m : MapView). m.live) last;
         extensible = ap (λ (m : MapView). m.extensible) last;
-        entries = λ j b.
-            let same : i ≡ j = one_place m.entries key i j at b in
-            ap (λ (m : MapView). m.entries) last ∙ (λ t. set m.entries (same t) (entry_of key kind attributes r (here t))) ∙ (λ t. set m.entries j (entry_of key kind attributes r (entry_at m.entries (same t)).place));
+        entries = (i, at, ap (λ (m : MapView). m.entries) last ∙ (λ t. set m.entries i (entry_of key kind attributes r (here t))));
       };
     }
 

@@ -1,5 +1,5 @@
 -- What leads to a place of the tree.
-use Rattle.std.specs.Prelude.{◌≡◌, ◌≢◌, ◌<◌, ◌≤◌, ◌++◌, ◌∷◌, [], ℕ, Bool, true, false, Option, None, Some, List, length, slice_index_or, if◌then◌else◌}
+use Rattle.std.specs.Prelude.{◌≡◌, ◌≢◌, ◌<◌, ℕ, Bool, false, Option, None, Some, List, length, slice_index_or, if◌then◌else◌}
 use Rattle.property_keys.specs.declared.identifiers.ObjectId.{ObjectId}
 use Rattle.property_keys.specs.declared.keys.Attributes.{Attributes}
 use Rattle.map_store.specs.declared.OriginId.{OriginId}
@@ -10,10 +10,7 @@ use Rattle.transition_tree.specs.declared.edges.Edge.TheVariants as edge
 use Rattle.transition_tree.specs.declared.edges.Flags.{Flags}
 use Rattle.transition_tree.specs.declared.paths.Step.{Step}
 use Rattle.transition_tree.specs.declared.paths.Step.TheVariants as step
-
-abbrev pub is_accessor : Kind → Bool
-is_accessor kind.Stored = false
-is_accessor kind.Accessor = true
+use Rattle.transition_tree.specs.Paths.{is_accessor}
 
 abbrev pub flags_of : Kind → Attributes → Flags
 flags_of k a = record { accessor = is_accessor k; writable = a.writable; enumerable = a.enumerable; configurable = a.configurable }
@@ -42,6 +39,12 @@ step_before (edge.Add place key f) = Some (place, step.Add key (kind_in f) (attr
 step_before (edge.Redefine place key f) = Some (place, step.Redefine key (kind_in f) (attributes_in f))
 step_before (edge.Close place) = Some (place, step.Close)
 
+-- whether an edge's step is one of kind Accessor
+abbrev pub by_accessor : Edge → Bool
+by_accessor (edge.Add place key f) = f.accessor
+by_accessor (edge.Redefine place key f) = f.accessor
+by_accessor other = false
+
 -- ---- the table of places: a list in which a place is the number of what leads to it
 
 abbrev pub no_edge : Edge
@@ -60,9 +63,3 @@ HasNoPlace table e = (n : ℕ) → n < length table → edge_at table n ≢ e
 -- one place for each
 abbrev pub HasOneEach : List Edge → Type 0
 HasOneEach table = (i j : ℕ) → i < length table → j < length table → edge_at table i ≡ edge_at table j → i ≡ j
-
--- an edge that has no place gets one at the end; what is there stays
-pub record GetsPlace (old new : List Edge) (e : Edge) (n : ℕ) : Type 0 where
-  pub here : IsPlaceOf new e n
-  pub kept : length old ≤ length new
-  pub table : (HasNoPlace old e → new ≡ old ++ e ∷ []) × (IsPlaceOf old e n → new ≡ old)

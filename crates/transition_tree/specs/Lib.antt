@@ -1,2 +1,5 @@
 pub mod Edges
 pub mod Paths
+pub mod Rows
+pub mod Tables
+pub mod Together

@@ -1,4 +1,5 @@
-ghost use Rattle.std.specs.Prelude.{◌≡◌, ◌++◌, ◌∷◌, [], length, IfOk, OnErr};
+ghost use Rattle.std.specs.Prelude.{◌≡◌, ◌+◌, ◌++◌, ◌∷◌, [], length, IfOk, OnErr};
+ghost use Rattle.property_keys.specs.Counts.{TakesAtMost};
 ghost use Rattle.map_store.specs.Views.{IsKnown, map_at};
 ghost use Rattle.transition_tree.specs.Paths.{Fits, Follows, MakesChild};
 
@@ -18,6 +19,7 @@ pub(crate) fn follow<L: Ledger>(
     requires fits { Fits (map_at maps.old map) step }
     ensures ok { IfOk result (MakesChild maps.old maps.new map step representation) }
     ensures err { OnErr result (maps.new ≡ maps.old) }
+    ensures steps { let m = map_at maps.old map in TakesAtMost (length m.entries + 1) (L.ticks steps.old) (L.ticks steps.new) }
 {
     match step {
         Step::Add {

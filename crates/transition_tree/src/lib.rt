@@ -5,8 +5,11 @@ mod edges;
 mod following;
 mod paths;
 mod places;
+mod table;
+mod tree;
 
 pub use paths::{Path, Step};
+pub use tree::Tree;
 
 #[cfg(test)]
 mod tests;

@@ -1,4 +1,4 @@
-ghost use Rattle.std.specs.Prelude.{◌≡◌, ◌<◌, ◌++◌, ◌∷◌, [], length, OnOk, OnErr, slice_index_or};
+ghost use Rattle.std.specs.Prelude.{◌≡◌, ◌<◌, ◌++◌, ◌∷◌, [], length, reverse, OnOk, OnErr, slice_index_or};
 
 use map_store::Kind;
 use property_keys::{Attributes, NoMemory, PropKey};
@@ -70,5 +70,12 @@ impl Path {
         ensures { result.now ≡ slice_index_or self.now i result.now }
     {
         &self.steps[i]
+    }
+
+    /// The steps in the other order.
+    pub(crate) fn reverse(&mut self)
+        ensures { self.new ≡ reverse self.old }
+    {
+        self.steps.reverse();
     }
 }

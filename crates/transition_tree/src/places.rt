@@ -1,5 +1,5 @@
-ghost use Rattle.std.specs.Prelude.{◌≡◌, ◌<◌, ◌↔◌, [], length, IfSome, IsNone, IfOk, OnErr};
-ghost use Rattle.transition_tree.specs.Edges.{IsPlaceOf, HasNoPlace, HasOneEach, GetsPlace, edge_at};
+ghost use Rattle.std.specs.Prelude.{◌≡◌, ◌<◌, ◌↔◌, ◌++◌, ◌∷◌, [], length, IfOk, IfSome, IsNone, OnErr, OnOk};
+ghost use Rattle.transition_tree.specs.Edges.{IsPlaceOf, HasNoPlace, edge_at};
 
 use crate::edges::Edge;
 use indexmap::IndexSet;
@@ -38,40 +38,28 @@ impl Places {
     pub(crate) fn find(&self, edge: Edge) -> Option<u32>
         ensures found { IfSome result (IsPlaceOf self.now edge) }
         ensures none { IsNone result ↔ HasNoPlace self.now edge }
-        ensures one { HasOneEach self.now }
     {
-        // The set tells here that its elements differ.
-        let _count = self.edges.len();
         match self.edges.get_index_of(&edge) {
             Some(index) => Some(index as u32),
             None => None,
         }
     }
 
-    /// The place to which this leads, made where there is none. There is room for 2^32 - 1 places.
-    pub(crate) fn place(&mut self, edge: Edge) -> Result<u32, NoMemory>
-        ensures ok { IfOk result (GetsPlace self.old self.new edge) }
-        ensures err { OnErr result (self.new ≡ self.old) }
-    {
-        match self.find(edge) {
-            Some(place) => Ok(place),
-            None => self.add(edge),
-        }
-    }
-
-    fn add(&mut self, edge: Edge) -> Result<u32, NoMemory>
+    /// Makes the next place for what leads to none yet. There is room for 2^32 - 1 places.
+    pub(crate) fn add(&mut self, edge: Edge) -> Result<u32, NoMemory>
         requires { HasNoPlace self.old edge }
-        ensures ok { IfOk result (GetsPlace self.old self.new edge) }
+        ensures number { IfOk result (λ place. place ≡ length self.old) }
+        ensures ok { OnOk result (self.new ≡ self.old ++ edge ∷ []) }
         ensures err { OnErr result (self.new ≡ self.old) }
     {
-        let count = self.edges.len();
-        if count >= u32::MAX as usize {
+        let place = self.edges.len();
+        if place >= u32::MAX as usize {
             return Err(NoMemory);
         }
-        let Ok((index, _)) = self.edges.insert_full(edge) else {
+        let Ok(_) = self.edges.insert_full(edge) else {
             return Err(NoMemory);
         };
-        Ok(index as u32)
+        Ok(place as u32)
     }
 
     /// What leads to a place.

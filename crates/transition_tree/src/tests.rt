@@ -1,11 +1,14 @@
-//! Steps with the maps that they make, worked out by hand.
+//! Steps with the maps that they make, and a tree of which a branch dies, worked out by hand.
 
-use crate::edges::{edge_of, root_edge, step_before};
+mod forest;
+mod rows;
+
 use crate::following::follow;
-use crate::places::Places;
 use crate::*;
+use forest::Forest;
 use map_store::{Kind, MapId, Maps, OriginId, Representation};
-use property_keys::{Attributes, Counting, NoMemory, ObjectId, PropKey, Steps, TextId};
+use property_keys::{Attributes, Counting, NoMemory, PropKey, Steps};
+use rows::ROWS;
 use std::test::Fail;
 
 #[test]
@@ -26,60 +29,6 @@ fn attributes(writable: bool) -> Attributes {
         enumerable: true,
         configurable: false,
     }
-}
-
-const KEY: PropKey = PropKey::Name(TextId(7));
-
-fn steps() -> [Step; 4] {
-    [
-        Step::Add {
-            key: KEY,
-            kind: Kind::Stored,
-            attributes: attributes(true),
-        },
-        Step::Add {
-            key: KEY,
-            kind: Kind::Accessor,
-            attributes: attributes(true),
-        },
-        Step::Redefine {
-            key: KEY,
-            kind: Kind::Stored,
-            attributes: attributes(true),
-        },
-        Step::Close,
-    ]
-}
-
-/// Each step after each of two places has a place of its own, which is found again; the roots are places 0 and 1.
-#[test]
-fn each_step_has_one_place(rt: HostRuntime) -> Result<(), Fail> {
-    let mut places = Places::new(rt.alloc());
-    let roots = [
-        root_edge(OriginId(1), None),
-        root_edge(OriginId(1), Some(ObjectId(1))),
-    ];
-    for (root, edge) in roots.iter().enumerate() {
-        assert_eq!(rt; places.find(*edge), None);
-        if places.place(*edge).is_err() {
-            assert_eq!(rt; places.find(*edge), None);
-        }
-        assert_eq!(rt; places.place(*edge)?, root as u32);
-        assert_eq!(rt; step_before(*edge), None);
-    }
-    for (i, step) in steps().iter().enumerate() {
-        for before in 0..2_u32 {
-            let edge = edge_of(before, *step);
-            assert_eq!(rt; step_before(edge), Some((before, *step)));
-            assert_eq!(rt; places.find(edge), None);
-            if places.place(edge).is_err() {
-                assert_eq!(rt; places.find(edge), None);
-            }
-            assert_eq!(rt; places.place(edge)?, 2 + 2 * i as u32 + before);
-            assert_eq!(rt; places.place(edge)?, 2 + 2 * i as u32 + before);
-        }
-    }
-    Ok(())
 }
 
 /// The map with a key more, or with other flags at a key that is there. None where the map is not there or is closed.
@@ -147,5 +96,29 @@ fn maps_follow_by_steps(rt: HostRuntime) -> Result<(), Fail> {
             && new.attributes == attributes(false)
             && new.representation == Representation::Tagged
     );
+    Ok(())
+}
+
+/// The number of the first row of which something else is seen. After `NoMemory` no map was made, and the call is then
+/// had at the second try: `rt try --test --fail-alloc N` refuses the N-th growth.
+fn first_wrong(forest: &mut Forest) -> Result<Option<usize>, NoMemory> {
+    for (number, (call, seen)) in ROWS.iter().enumerate() {
+        let before = forest.len();
+        let is_right = match forest.seen(*call) {
+            Ok(answer) => answer == *seen,
+            Err(_) => forest.len() == before && forest.seen(*call)? == *seen,
+        };
+        if !is_right {
+            return Ok(Some(number));
+        }
+    }
+    Ok(None)
+}
+
+#[test]
+fn a_branch_dies_and_grows_anew(rt: HostRuntime) -> Result<(), Fail> {
+    let mut forest = Forest::new(rt.alloc());
+    assert_eq!(rt; first_wrong(&mut forest)?, None);
+    assert_eq!(rt; forest.len(), 11);
     Ok(())
 }

@@ -1,5 +1,5 @@
 use Rattle.std.proofs.Common.{rules, sym, true≢false}
-use Rattle.transition_tree.proofs.Table.{found_at, one_each, unknown}
+use Rattle.transition_tree.proofs.Lookups.{found_at, unknown}
 use Rattle.transition_tree.specs.Edges.{IsPlaceOf}
 use Rattle.transition_tree.proofs.places.Places.find.Goals as goal
 
@@ -11,12 +11,6 @@ returns-in-Some-clause-none c =
     let here : IsPlaceOf c.args.self.now c.args.edge c.in-Some.index = rw (← c.self.view_is) (found_at _ _ _ (sym c.in-Some.ensures.index)) in
     (λ e. absurd (true≢false e), λ none. absurd (none c.in-Some.index here.known here.here))
 
-pub returns-in-Some-clause-one : goal.returns-in-Some-clause-one
-returns-in-Some-clause-one c = rw (← c.self.view_is) (one_each _ c.len-count.ensures.unique)
-
 pub returns-in-None-clause-none : goal.returns-in-None-clause-none
 returns-in-None-clause-none c =
     (λ e. rw (← c.self.view_is) (unknown c.self.inside.edges.keys c.args.edge (sym c.in-None.ensures.found)), λ none. search rules)
-
-pub returns-in-None-clause-one : goal.returns-in-None-clause-one
-returns-in-None-clause-one c = rw (← c.self.view_is) (one_each _ c.len-count.ensures.unique)

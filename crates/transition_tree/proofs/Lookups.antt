@@ -1,24 +1,16 @@
 -- The table of places: what leads to a place stands in it once.
-use Rattle.std.proofs.Common.{◌≡◌, ◌<◌, ◌∙◌, ◌++◌, ◌∷◌, [], inl, inr, ℕ, suc, true, false, Bool, List, Some, length, length-append, position, slice_get, refl, sym, ap, true≢false, arith, cond}
-use Rattle.std.specs.List.{IsDistinct, list_any}
+use Rattle.std.proofs.Common.{◌≡◌, ◌<◌, ◌∙◌, ◌++◌, ◌∷◌, [], inl, inr, ℕ, suc, true, false, Bool, List, Some, length, position, refl, sym, ap, true≢false, arith, cond}
+use Rattle.std.specs.List.{list_any}
 use Rattle.std.proofs.lemmas.Bool.{cases_Bool}
 use Rattle.std.proofs.lemmas.List.Quantifiers.{position-Some}
 use Rattle.std.proofs.lemmas.List.Folds.{list_any_at}
-use Rattle.std.proofs.lemmas.Map.Made.{AllPairs-from_IsDistinct}
-use Rattle.std.proofs.lemmas.Option.{get_or_from_slice_get, slice_get_within}
 use Rattle.transition_tree.specs.contracts.edges.EdgePartialEq.TheImpl as edge_eq
 use Rattle.transition_tree.specs.declared.edges.Edge.{Edge}
-use Rattle.transition_tree.specs.Edges.{edge_at, GetsPlace, HasNoPlace, HasOneEach, IsPlaceOf, no_edge}
+use Rattle.transition_tree.specs.Edges.{edge_at, HasNoPlace, IsPlaceOf, no_edge}
 use Rattle.transition_tree.proofs.EdgeEq.{edges_decide}
 
 abbrev same : Edge → Edge → Bool
 same = edge_eq.eq-value.it
-
-pub one_each : (table : List Edge) → IsDistinct same table → HasOneEach table
-one_each table distinct i j a b e =
-    let below : i < j → ⊥ = λ lt. AllPairs-from_IsDistinct edges_decide table distinct i j no_edge lt b e in
-    let above : j < i → ⊥ = λ lt. AllPairs-from_IsDistinct edges_decide table distinct j i no_edge lt a (sym e) in
-    omega arith
 
 -- the place that the look-up finds
 pub found_at : (table : List Edge) (e : Edge) (i : ℕ) → position (same e) table ≡ Some i → IsPlaceOf table e i
@@ -31,18 +23,6 @@ seen table e i known here = list_any_at (same e) table i no_edge known ((edges_d
 
 pub unknown : (table : List Edge) (e : Edge) → list_any (same e) table ≡ false → HasNoPlace table e
 unknown table e none i known here = true≢false (sym (seen table e i known here) ∙ none)
-
-pub stays : (table : List Edge) (e : Edge) (n : ℕ) → IsPlaceOf table e n → GetsPlace table table e n
-stays table e n p = record { here = p; kept = omega arith; table = (λ none. absurd (none n p.known p.here), λ q. refl) }
-
--- the table with an edge that had no place, at its end
-pub stored : (old new : List Edge) (e : Edge) (n : ℕ) → HasNoPlace old e → new ≡ old ++ e ∷ []
-    → (found : Edge) × (slice_get new n ≡ Some found) × (same e found ≡ true) → GetsPlace old new e n
-stored old new e n none is s = record {
-  here = record { known = slice_get_within new n s.0 s.1; here = get_or_from_slice_get new n s.0 no_edge s.1 ∙ sym ((edges_decide e s.0).0 s.2) };
-  kept = omega (arith, ap (λ (es : List Edge). length es) is, length-append old (e ∷ []));
-  table = (λ absent. is, λ p. absurd (none n p.known p.here));
-}
 
 -- the look-up does not find what stands nowhere
 absent : (table : List Edge) (e : Edge) → HasNoPlace table e → list_any (same e) table ≡ false
