@@ -27,6 +27,8 @@ pub enum Intrinsic {
     Proxy,
     ThrowTypeError,
     Reflect,
+    /// The function that prints a line.
+    Print,
 }
 
 impl Intrinsic {
@@ -41,6 +43,7 @@ impl Intrinsic {
             Intrinsic::Proxy => ObjectId(25),
             Intrinsic::ThrowTypeError => ObjectId(26),
             Intrinsic::Reflect => ObjectId(27),
+            Intrinsic::Print => ObjectId(28),
         }
     }
 }
