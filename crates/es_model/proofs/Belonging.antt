@@ -22,7 +22,7 @@ use Rattle.es_model.proofs.KnownLater.{all-map, there-map, object-later, text-la
 symbol-later : (l l' : Lists) → Grows l l' → (s : SymbolId) → IsSymbol l s → IsSymbol l' s
 symbol-later l l' g s b = let x = g.symbols in omega arith
 
-reply-later : (l l' : Lists) → Grows l l' → (r : Reply) → IsKnownReply l r → IsKnownReply l' r
+pub reply-later : (l l' : Lists) → Grows l l' → (r : Reply) → IsKnownReply l r → IsKnownReply l' r
 reply-later l l' g (reply.Value v) h = known-later l l' g v h
 reply-later l l' g (reply.Flag b) h = tt
 reply-later l l' g (reply.Property c) h = there-map (IsKnownComplete l) (IsKnownComplete l') (complete-later l l' g) c h

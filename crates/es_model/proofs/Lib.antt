@@ -25,3 +25,5 @@ pub mod SoundCycles
 pub mod ChainsEnd
 pub mod SoundErrors
 pub mod LongestLiteral
+pub mod SharedWithin
+pub mod SharedKept

@@ -35,11 +35,11 @@ pub kept-if : (P : Lists → Completion → Type 0) (w : World) (b : Bool) (p q 
 kept-if P w true p q h h' = h
 kept-if P w false p q h h' = h'
 
-interned-known : (w : World) (text : List ℕ) → IsText (changed (Interning text) w).lists (number_of w.lists text)
+pub interned-known : (w : World) (text : List ℕ) → IsText (changed (Interning text) w).lists (number_of w.lists text)
 unfolding changed text_known number_of
 interned-known w text = (place-interned w.lists.texts text).known
 
-interned-names : (w : World) (text : List ℕ) → text_at (changed (Interning text) w).lists.texts (number_of w.lists text).0 ≡ text
+pub interned-names : (w : World) (text : List ℕ) → text_at (changed (Interning text) w).lists.texts (number_of w.lists text).0 ≡ text
 unfolding changed text_known number_of
 interned-names w text = (place-interned w.lists.texts text).names
 
@@ -47,7 +47,7 @@ objects-cond : (b : Bool) (v u : World) (n : ℕ) → length v.lists.objects ≡
 objects-cond true v u n h h' = h
 objects-cond false v u n h h' = h'
 
-noted-objects : (w : World) (p : Option ObjectId) → length (prototype_noted w p).lists.objects ≡ length w.lists.objects
+pub noted-objects : (w : World) (p : Option ObjectId) → length (prototype_noted w p).lists.objects ≡ length w.lists.objects
 noted-objects w None = refl
 noted-objects w (Some p) = objects-cond (is_proxy (kind w.lists p)) w (noted w (MadePrototype p)) (length w.lists.objects) refl refl
 

@@ -311,6 +311,7 @@ fixed-start (intrinsic.Prototype c) = fixed-prototype c
 fixed-start intrinsic.Proxy = refl
 fixed-start intrinsic.ThrowTypeError = refl
 fixed-start intrinsic.Reflect = refl
+fixed-start intrinsic.Print = refl
 
 start-there : (i : Intrinsic) → IsObject start_lists (object_of i) × (fixed_kind (kind start_lists (object_of i)) ≡ start_kind i)
 start-there i =

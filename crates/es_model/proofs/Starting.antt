@@ -42,6 +42,7 @@ object-stands (intrinsic.Prototype (class.Error error.SyntaxError)) = refl
 object-stands intrinsic.Proxy = refl
 object-stands intrinsic.ThrowTypeError = refl
 object-stands intrinsic.Reflect = refl
+object-stands intrinsic.Print = refl
 
 pub objects-are-in-order : ObjectsAreInOrder
 objects-are-in-order = (object-stands, refl)
@@ -80,6 +81,7 @@ text-stands (text.Class (class.Error error.TypeError)) = refl
 text-stands (text.Class (class.Error error.RangeError)) = refl
 text-stands (text.Class (class.Error error.ReferenceError)) = refl
 text-stands (text.Class (class.Error error.SyntaxError)) = refl
+text-stands text.Print = refl
 
 text-found : (t : StartText) → text_place start_texts (units_of_start t) ≡ text_number t
 text-found text.Length = refl
@@ -110,6 +112,7 @@ text-found (text.Class (class.Error error.TypeError)) = refl
 text-found (text.Class (class.Error error.RangeError)) = refl
 text-found (text.Class (class.Error error.ReferenceError)) = refl
 text-found (text.Class (class.Error error.SyntaxError)) = refl
+text-found text.Print = refl
 
 pub texts-are-in-order : TextsAreInOrder
 texts-are-in-order t = (text-stands t, text-found t)

@@ -32,10 +32,11 @@ start_number (intrinsic.Prototype c) = 2 + 2 * class_place c
 start_number intrinsic.Proxy = 25
 start_number intrinsic.ThrowTypeError = 26
 start_number intrinsic.Reflect = 27
+start_number intrinsic.Print = 28
 
 -- how many there are
 abbrev pub start_objects : ℕ
-start_objects = 28
+start_objects = 29
 
 abbrev pub object_of : Intrinsic → ObjectId
 object_of i = record { 0 = start_number i }

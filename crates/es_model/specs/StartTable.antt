@@ -47,6 +47,7 @@ start_kind (intrinsic.Prototype c) = prototype_kind c
 start_kind intrinsic.Proxy = builtin intrinsic.Proxy true
 start_kind intrinsic.ThrowTypeError = builtin intrinsic.ThrowTypeError false
 start_kind intrinsic.Reflect = kind.Ordinary
+start_kind intrinsic.Print = builtin intrinsic.Print false
 
 -- ---- their prototypes
 
@@ -74,6 +75,7 @@ start_parent (intrinsic.Prototype c) = prototype_parent c
 start_parent intrinsic.Proxy = Some (intrinsic.Prototype class.Function)
 start_parent intrinsic.ThrowTypeError = Some (intrinsic.Prototype class.Function)
 start_parent intrinsic.Reflect = Some (intrinsic.Prototype class.Object)
+start_parent intrinsic.Print = Some (intrinsic.Prototype class.Function)
 
 -- all are extensible but %ThrowTypeError% (10.2.4.1)
 abbrev pub start_extensible : Intrinsic → Bool
@@ -124,11 +126,12 @@ well_known s = fixed (text.Symbol s) (value.Symbol (symbol_of s))
 
 -- ---- the table
 
--- 19.1, 19.3, 19.4
+-- 19.1, 19.3, 19.4, and the function that prints a line
 abbrev pub global_properties : List OwnProperty
 global_properties =
     hidden text.GlobalThis (object intrinsic.Global)
     ∷ fixed text.Undefined value.Undefined
+    ∷ hidden text.Print (object intrinsic.Print)
     ∷ global_class class.Object
     ∷ global_class class.Function
     ∷ global_class class.Array
@@ -204,3 +207,7 @@ start_properties intrinsic.ThrowTypeError =
     ∷ fixed text.Name (text_value text.Empty)
     ∷ []
 start_properties intrinsic.Reflect = tag text.Reflect ∷ []
+start_properties intrinsic.Print =
+    readonly text.Length (value.Whole (pos 0))
+    ∷ readonly text.Name (text_value text.Print)
+    ∷ []

@@ -29,6 +29,7 @@ text_number text.Reflect = 9
 text_number (text.Symbol s) = 10 + symbol_number s
 text_number (text.Description s) = 13 + symbol_number s
 text_number (text.Class c) = 16 + class_place c
+text_number text.Print = 28
 
 abbrev pub symbol_of : WellKnown → SymbolId
 symbol_of s = record { 0 = symbol_number s }
@@ -66,6 +67,7 @@ units_of_start (text.Class (class.Error error.TypeError)) = codes "TypeError"
 units_of_start (text.Class (class.Error error.RangeError)) = codes "RangeError"
 units_of_start (text.Class (class.Error error.ReferenceError)) = codes "ReferenceError"
 units_of_start (text.Class (class.Error error.SyntaxError)) = codes "SyntaxError"
+units_of_start text.Print = codes "print"
 
 -- in the order of their numbers
 abbrev pub all_start_texts : List StartText
@@ -76,7 +78,7 @@ all_start_texts =
     ∷ text.Description symbol.HasInstance ∷ text.Description symbol.ToPrimitive ∷ text.Description symbol.ToStringTag
     ∷ text.Class class.Object ∷ text.Class class.Function ∷ text.Class class.Array ∷ text.Class class.String ∷ text.Class class.Number
     ∷ text.Class class.Boolean ∷ text.Class class.Symbol ∷ text.Class (class.Error error.Error) ∷ text.Class (class.Error error.TypeError)
-    ∷ text.Class (class.Error error.RangeError) ∷ text.Class (class.Error error.ReferenceError) ∷ text.Class (class.Error error.SyntaxError) ∷ []
+    ∷ text.Class (class.Error error.RangeError) ∷ text.Class (class.Error error.ReferenceError) ∷ text.Class (class.Error error.SyntaxError) ∷ text.Print ∷ []
 
 abbrev pub start_texts : List (List ℕ)
 start_texts = map units_of_start all_start_texts

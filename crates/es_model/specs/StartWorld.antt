@@ -3,7 +3,7 @@ use Rattle.std.specs.Prelude.{ℕ, option_map, List, [], ◌∷◌, map}
 use Rattle.es_model.specs.declared.kinds.ErrorKind.TheVariants as error
 use Rattle.es_model.specs.declared.intrinsics.Class.TheVariants as class
 use Rattle.es_model.specs.declared.intrinsics.Intrinsic.{Intrinsic}
-use Rattle.es_model.specs.declared.intrinsics.Intrinsic.TheVariants.{Global, Constructor, Prototype, Proxy, ThrowTypeError, Reflect}
+use Rattle.es_model.specs.declared.intrinsics.Intrinsic.TheVariants.{Global, Constructor, Prototype, Proxy, ThrowTypeError, Reflect, Print}
 use Rattle.es_tree.specs.Tree.{Tree}
 use Rattle.es_model.specs.Objects.{Object}
 use Rattle.es_model.specs.World.{Lists, World}
@@ -27,7 +27,7 @@ all_intrinsics =
     ∷ Constructor (class.Error error.RangeError) ∷ Prototype (class.Error error.RangeError)
     ∷ Constructor (class.Error error.ReferenceError) ∷ Prototype (class.Error error.ReferenceError)
     ∷ Constructor (class.Error error.SyntaxError) ∷ Prototype (class.Error error.SyntaxError)
-    ∷ Proxy ∷ ThrowTypeError ∷ Reflect ∷ []
+    ∷ Proxy ∷ ThrowTypeError ∷ Reflect ∷ Print ∷ []
 
 abbrev pub start_object : Intrinsic → Object
 start_object i = record {

@@ -1,3 +1,6 @@
 -- Programs that many algorithms share.
 pub mod Abrupt
+pub mod Converting
 pub mod Errors
+pub mod Methods
+pub mod Testing

@@ -29,6 +29,8 @@ pub enum Intrinsic {
     Proxy,
     ThrowTypeError,
     Reflect,
+    /// The function that prints a line.
+    Print,
 }
 
 impl Intrinsic {
@@ -43,6 +45,7 @@ impl Intrinsic {
             Intrinsic::Proxy => ObjectId(25),
             Intrinsic::ThrowTypeError => ObjectId(26),
             Intrinsic::Reflect => ObjectId(27),
+            Intrinsic::Print => ObjectId(28),
         }
     }
 }

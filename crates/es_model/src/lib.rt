@@ -4,6 +4,7 @@
 
 mod answers;
 mod budget;
+mod callables;
 mod intrinsics;
 mod kinds;
 mod lists;
@@ -22,6 +23,7 @@ mod taken;
 
 pub use answers::{Completion, Halted, Reply, Stop, Turn};
 pub use budget::Turns;
+pub use callables::Method;
 pub use intrinsics::{Class, Intrinsic};
 pub use kinds::{CellNo, ErrorKind, ObjectKind};
 pub use lists::{ArgumentCells, KeyList, Values};

@@ -26,7 +26,7 @@ impl Intrinsic {
             Intrinsic::Global | Intrinsic::Reflect => ObjectKind::Ordinary,
             Intrinsic::Prototype(class) => kind_of_prototype(class),
             Intrinsic::Constructor(_) | Intrinsic::Proxy => self.function(true),
-            Intrinsic::ThrowTypeError => self.function(false),
+            Intrinsic::ThrowTypeError | Intrinsic::Print => self.function(false),
         }
     }
 
@@ -55,7 +55,7 @@ impl Intrinsic {
             Intrinsic::Global | Intrinsic::Reflect => Some(Intrinsic::Prototype(Class::Object)),
             Intrinsic::Constructor(class) => Some(parent_of_constructor(class)),
             Intrinsic::Prototype(class) => parent_of_prototype(class),
-            Intrinsic::Proxy | Intrinsic::ThrowTypeError => {
+            Intrinsic::Proxy | Intrinsic::ThrowTypeError | Intrinsic::Print => {
                 Some(Intrinsic::Prototype(Class::Function))
             }
         }
@@ -147,6 +147,7 @@ pub fn start_intrinsic(n: usize) -> Option<Intrinsic>
         Intrinsic::Proxy,
         Intrinsic::ThrowTypeError,
         Intrinsic::Reflect,
+        Intrinsic::Print,
     ];
     nth(&all, n)
 }

@@ -49,6 +49,13 @@ impl Intrinsic {
                 n,
             ),
             Intrinsic::Reflect => nth(&[tag(StartText::Reflect)], n),
+            Intrinsic::Print => nth(
+                &[
+                    readonly(StartText::Length, Value::Whole(0)),
+                    readonly(StartText::Name, text(StartText::Print)),
+                ],
+                n,
+            ),
         }
     }
 }
@@ -62,6 +69,7 @@ fn of_global(n: usize) -> Option<OwnProperty>
             Value::Object(Intrinsic::Global.object()),
         ),
         fixed(StartText::Undefined, Value::Undefined),
+        hidden(StartText::Print, Value::Object(Intrinsic::Print.object())),
         global_class(Class::Object),
         global_class(Class::Function),
         global_class(Class::Array),

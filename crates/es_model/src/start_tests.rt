@@ -8,7 +8,7 @@ use std::test::Fail;
 /// An own property at the start: of which object, the place among its own, the key, writable, configurable, and the value.
 struct Row(Intrinsic, usize, PropKey, bool, bool, Value);
 
-static ROWS: [Row; 15] = [
+static ROWS: [Row; 17] = [
     // globalThis is the first text past the six common ones, and `undefined` has three false flags
     Row(
         Intrinsic::Global,
@@ -26,10 +26,27 @@ static ROWS: [Row; 15] = [
         false,
         Value::Undefined,
     ),
-    // Object, then Function, by their classes; Reflect is the last object
+    // print is the last text and the last object
     Row(
         Intrinsic::Global,
-        3,
+        2,
+        PropKey::Name(TextId(28)),
+        true,
+        true,
+        Value::Object(ObjectId(28)),
+    ),
+    Row(
+        Intrinsic::Print,
+        1,
+        PropKey::Name(TextId(1)),
+        false,
+        true,
+        Value::Text(TextId(28)),
+    ),
+    // Object, then Function, by their classes; Reflect comes last on the global object
+    Row(
+        Intrinsic::Global,
+        4,
         PropKey::Name(TextId(17)),
         true,
         true,
@@ -37,7 +54,7 @@ static ROWS: [Row; 15] = [
     ),
     Row(
         Intrinsic::Global,
-        15,
+        16,
         PropKey::Name(TextId(9)),
         true,
         true,
@@ -160,8 +177,9 @@ fn properties_at_the_start(rt: HostRuntime) -> Result<(), Fail> {
 /// An object, and how many properties it has.
 struct Count(Intrinsic, usize);
 
-static COUNTS: [Count; 7] = [
-    Count(Intrinsic::Global, 16),
+static COUNTS: [Count; 8] = [
+    Count(Intrinsic::Global, 17),
+    Count(Intrinsic::Print, 2),
     Count(Intrinsic::Constructor(Class::Object), 3),
     Count(Intrinsic::Constructor(Class::Symbol), 6),
     Count(Intrinsic::Prototype(Class::Object), 1),
@@ -182,7 +200,7 @@ fn no_more_properties(rt: HostRuntime) -> Result<(), Fail> {
 /// An object, the number of its prototype, and whether it is extensible.
 struct Above(Intrinsic, Option<ObjectId>, bool);
 
-static ABOVE: [Above; 8] = [
+static ABOVE: [Above; 9] = [
     Above(Intrinsic::Global, Some(ObjectId(2)), true),
     Above(
         Intrinsic::Constructor(Class::Object),
@@ -208,6 +226,7 @@ static ABOVE: [Above; 8] = [
     ),
     Above(Intrinsic::ThrowTypeError, Some(ObjectId(4)), false),
     Above(Intrinsic::Reflect, Some(ObjectId(2)), true),
+    Above(Intrinsic::Print, Some(ObjectId(4)), true),
 ];
 
 #[test]
@@ -221,18 +240,19 @@ fn objects_at_the_start(rt: HostRuntime) -> Result<(), Fail> {
         Some(Intrinsic::Prototype(Class::Object))
     );
     assert_eq!(rt; start_intrinsic(27), Some(Intrinsic::Reflect));
-    assert_eq!(rt; start_intrinsic(28), None);
+    assert_eq!(rt; start_intrinsic(28), Some(Intrinsic::Print));
+    assert_eq!(rt; start_intrinsic(29), None);
     Ok(())
 }
 
 #[test]
 fn texts_at_the_start(rt: HostRuntime) -> Result<(), Fail> {
-    for n in 0..28 {
+    for n in 0..29 {
         let text = start_text(n).map_or("", |text| text.text());
         assert!(rt; text != "Infinity" && text != "NaN" && text != "parseInt");
     }
-    assert!(rt; start_text(27).is_some());
-    assert_eq!(rt; start_text(28), None);
+    assert!(rt; start_text(28).is_some());
+    assert_eq!(rt; start_text(29), None);
     assert_eq!(rt;
         StartText::Description(WellKnown::ToPrimitive).text(),
         "Symbol.toPrimitive"

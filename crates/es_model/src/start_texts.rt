@@ -48,6 +48,7 @@ pub enum StartText {
     Description(WellKnown),
     /// The name of a class.
     Class(Class),
+    Print,
 }
 
 impl StartText {
@@ -69,6 +70,7 @@ impl StartText {
             StartText::Symbol(symbol) => TextId(10 + symbol.symbol().0),
             StartText::Description(symbol) => TextId(13 + symbol.symbol().0),
             StartText::Class(class) => TextId(16 + class.place()),
+            StartText::Print => TextId(28),
         }
     }
 
@@ -94,6 +96,7 @@ impl StartText {
             StartText::Description(WellKnown::ToPrimitive) => "Symbol.toPrimitive",
             StartText::Description(WellKnown::ToStringTag) => "Symbol.toStringTag",
             StartText::Class(class) => text_of_class(class),
+            StartText::Print => "print",
         }
     }
 }
@@ -150,6 +153,7 @@ pub fn start_text(n: usize) -> Option<StartText>
         StartText::Class(Class::Error(ErrorKind::RangeError)),
         StartText::Class(Class::Error(ErrorKind::ReferenceError)),
         StartText::Class(Class::Error(ErrorKind::SyntaxError)),
+        StartText::Print,
     ];
     nth(&all, n)
 }

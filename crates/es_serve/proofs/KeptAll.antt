@@ -1,5 +1,5 @@
 -- Every algorithm keeps worlds sound.
-use Rattle.std.proofs.Common.{◌≡◌, true, Option, Some, None, List, refl, sym, subst, arith}
+use Rattle.std.proofs.Common.{◌≡◌, ℕ, true, Option, Some, None, List, refl, sym, subst, arith}
 use Rattle.std.specs.Prelude.{codes}
 use Rattle.property_keys.specs.declared.identifiers.ObjectId.{ObjectId}
 use Rattle.property_keys.specs.declared.keys.PropKey.{PropKey}
@@ -17,7 +17,7 @@ use Rattle.es_model.specs.Grows.{Grows}
 use Rattle.es_model.specs.World.{World, kind}
 use Rattle.es_model.specs.Changes.{Accessing, changed, charged}
 use Rattle.es_model.specs.Program.{Program, change, Of, Evaluating, Statements, Round}
-use Rattle.es_model.specs.Known.{IfThere}
+use Rattle.es_model.specs.Known.{AreKnown, IfThere}
 use Rattle.es_model.specs.Sound.{IsSound}
 use Rattle.es_model.specs.Kept.{FitsTask, IsKept, KeepsEachBy}
 use Rattle.es_model.specs.programs.Errors.{entering, unwritten, not_a_function, not_a_constructor}
@@ -29,6 +29,8 @@ use Rattle.es_model.proofs.SoundErrors.{kept-if, error-kept}
 use Rattle.ordinary_object.specs.Ordinary.{ordinary_program}
 use Rattle.ordinary_object.specs.Serving.{is_ordinary}
 use Rattle.ordinary_object.proofs.Kept.{ordinary_kept}
+use Rattle.plain_builtins.specs.Plain.{row_program}
+use Rattle.plain_builtins.proofs.KeptPlain.{row-kept, work-kept}
 use Rattle.evaluator.proofs.TasksKept.{node-kept, statements-kept, round-kept}
 use Rattle.es_serve.specs.Serve.{method_of, method_program, is_counted, noting, call_of, call_program, construct_of, request_program, program_of}
 
@@ -62,25 +64,33 @@ noting-kept q w (Some site) way o k r p s f =
     kept-if (FitsTask (Of q)) w (is_counted (kind w.lists o) o k r) (change (Accessing site way o k) p) p
     (f (changed (Accessing site way o k) w) (sound-accessing w site way o k s) (grows-changed (Accessing site way o k) w)) (f w s (grows_none w.lists))
 
-call_of-kept : (q : Request) (w : World) (k : ObjectKind) (f : ObjectId) (this : Value) (arguments : List Value) → IsSound w → IsKept (FitsTask (Of q)) (call_of w.script k f this arguments) w
-call_of-kept q w kind_of.Ordinary f this arguments s = no_function-kept q w s
-call_of-kept q w (kind_of.Function function constructor strict) f this arguments s = entering-kept q w s
-call_of-kept q w (kind_of.Builtin row constructor proxy) f this arguments s = entering-kept q w s
-call_of-kept q w kind_of.Array f this arguments s = no_function-kept q w s
-call_of-kept q w (kind_of.Text t) f this arguments s = no_function-kept q w s
-call_of-kept q w (kind_of.Wrapper v) f this arguments s = no_function-kept q w s
-call_of-kept q w (kind_of.Arguments cells) f this arguments s = no_function-kept q w s
-call_of-kept q w kind_of.Error f this arguments s = no_function-kept q w s
-call_of-kept q w (kind_of.Proxy target handler callable constructor) f this arguments s = kept-if (FitsTask (Of q)) w callable _ _ (entering-kept q w s) (no_function-kept q w s)
+-- a built-in function is entered
+row_entered-kept : (g this : Value) (arguments : List Value) (row : ℕ) (w : World) → IsSound w → AreKnown w.lists arguments → IsKept (FitsTask (Of (Call g this arguments))) (entering (row_program row arguments)) w
+unfolding charged
+row_entered-kept g this arguments row w s known =
+    let s1 = sound-charged w 1 s in
+    (s.intact, (row-kept g this arguments row (charged w 1) s1 known, error-kept (Of (Call g this arguments)) (charged w 1) error.RangeError (codes "too many nested calls") s1 (omega arith)))
 
-call-kept : (q : Request) (w : World) (f this : Value) (arguments : List Value) → IsSound w → IsKept (FitsTask (Of q)) (call_program w.script f this arguments) w
-call-kept q w (value.Object o) this arguments s = call_of-kept q w (kind w.lists o) o this arguments s
-call-kept q w value.Undefined this arguments s = no_function-kept q w s
-call-kept q w value.Null this arguments s = no_function-kept q w s
-call-kept q w (value.Bool b) this arguments s = no_function-kept q w s
-call-kept q w (value.Whole n) this arguments s = no_function-kept q w s
-call-kept q w (value.Text t) this arguments s = no_function-kept q w s
-call-kept q w (value.Symbol y) this arguments s = no_function-kept q w s
+call_of-kept : (g : Value) (w : World) (k : ObjectKind) (f : ObjectId) (this : Value) (arguments : List Value) → IsSound w → AreKnown w.lists arguments → IsKept (FitsTask (Of (Call g this arguments))) (call_of w.script k f this arguments) w
+call_of-kept g w kind_of.Ordinary f this arguments s known = no_function-kept (Call g this arguments) w s
+call_of-kept g w (kind_of.Function function constructor strict) f this arguments s known = entering-kept (Call g this arguments) w s
+call_of-kept g w (kind_of.Builtin row constructor proxy) f this arguments s known = row_entered-kept g this arguments row w s known
+call_of-kept g w kind_of.Array f this arguments s known = no_function-kept (Call g this arguments) w s
+call_of-kept g w (kind_of.Text t) f this arguments s known = no_function-kept (Call g this arguments) w s
+call_of-kept g w (kind_of.Wrapper v) f this arguments s known = no_function-kept (Call g this arguments) w s
+call_of-kept g w (kind_of.Arguments cells) f this arguments s known = no_function-kept (Call g this arguments) w s
+call_of-kept g w kind_of.Error f this arguments s known = no_function-kept (Call g this arguments) w s
+call_of-kept g w (kind_of.Proxy target handler callable constructor) f this arguments s known =
+    kept-if (FitsTask (Of (Call g this arguments))) w callable _ _ (entering-kept (Call g this arguments) w s) (no_function-kept (Call g this arguments) w s)
+
+call-kept : (w : World) (f this : Value) (arguments : List Value) → IsSound w → AreKnown w.lists arguments → IsKept (FitsTask (Of (Call f this arguments))) (call_program w.script f this arguments) w
+call-kept w (value.Object o) this arguments s known = call_of-kept (value.Object o) w (kind w.lists o) o this arguments s known
+call-kept w value.Undefined this arguments s known = no_function-kept (Call value.Undefined this arguments) w s
+call-kept w value.Null this arguments s known = no_function-kept (Call value.Null this arguments) w s
+call-kept w (value.Bool b) this arguments s known = no_function-kept (Call (value.Bool b) this arguments) w s
+call-kept w (value.Whole n) this arguments s known = no_function-kept (Call (value.Whole n) this arguments) w s
+call-kept w (value.Text t) this arguments s known = no_function-kept (Call (value.Text t) this arguments) w s
+call-kept w (value.Symbol y) this arguments s known = no_function-kept (Call (value.Symbol y) this arguments) w s
 
 construct_of-kept : (q : Request) (w : World) (k : ObjectKind) (f : ObjectId) (arguments : List Value) (target : ObjectId) → IsSound w → IsKept (FitsTask (Of q)) (construct_of w.script k f arguments target) w
 construct_of-kept q w kind_of.Ordinary f arguments target s = no_constructor-kept q w s
@@ -115,9 +125,9 @@ request-kept (Proto o) w s h = object-kept (Proto o) w o s h refl
 request-kept (SetProto o p) w s h = object-kept (SetProto o p) w o s h refl
 request-kept (Extensible o) w s h = object-kept (Extensible o) w o s h refl
 request-kept (Prevent o) w s h = object-kept (Prevent o) w o s h refl
-request-kept (Call f this arguments) w s h = call-kept (Call f this arguments) w f this arguments s
+request-kept (Call f this arguments) w s h = call-kept w f this arguments s h.2
 request-kept (Construct f arguments target) w s h = construct_of-kept (Construct f arguments target) w (kind w.lists f) f arguments target s
-request-kept (Work operation operands) w s h = (s, tt)
+request-kept (Work operation operands) w s h = work-kept operation operands w s h.1
 request-kept (Print line) w s h = (s, tt)
 
 -- ---- every task, one line for each crate

@@ -19,6 +19,8 @@ use Rattle.es_model.specs.Weights.{request_weight, renewed, IsWithin}
 use Rattle.es_model.specs.programs.Errors.{entering, unwritten, not_a_function, not_a_constructor}
 use Rattle.es_model.proofs.Within.{within-cond, renewed-enough}
 use Rattle.ordinary_object.proofs.OrdinaryWithin.{ordinary-within}
+use Rattle.plain_builtins.specs.Plain.{row_program}
+use Rattle.plain_builtins.proofs.PlainWithin.{row-within, work-within}
 use Rattle.evaluator.proofs.TasksWithin.{node-within, statements-within, round-within}
 use Rattle.es_serve.specs.Serve.{method_of, is_counted, noting, call_of, call_program, construct_of, request_program, program_of}
 
@@ -47,26 +49,30 @@ noting-within : (r b : ℕ) (site : Option SiteId) (way : Way) (o : ObjectId) (k
 noting-within r b None way o k v p h = h
 noting-within r b (Some site) way o k v p h = λ l. within-cond r b (is_counted (kind l o) o k v) (change (Accessing site way o k) p) p h h
 
-call_of-within : (r : ℕ) (script : Tree) (k : ObjectKind) (f : ObjectId) (this : Value) (arguments : List Value) → IsWithin r 0 (call_of script k f this arguments)
-call_of-within r script kind_of.Ordinary f this arguments = no_function-within r 0
-call_of-within r script (kind_of.Function function constructor strict) f this arguments = entering-within r 0
-call_of-within r script (kind_of.Builtin row constructor proxy) f this arguments = entering-within r 0
-call_of-within r script kind_of.Array f this arguments = no_function-within r 0
-call_of-within r script (kind_of.Text t) f this arguments = no_function-within r 0
-call_of-within r script (kind_of.Wrapper v) f this arguments = no_function-within r 0
-call_of-within r script (kind_of.Arguments cells) f this arguments = no_function-within r 0
-call_of-within r script kind_of.Error f this arguments = no_function-within r 0
-call_of-within r script (kind_of.Proxy target handler callable constructor) f this arguments =
+-- a built-in function is entered
+row_entered-within : (r b : ℕ) → 200 ≤ r → (row : ℕ) (arguments : List Value) → IsWithin r b (entering (row_program row arguments))
+row_entered-within r b enough row arguments = (row-within r enough row arguments, λ a c d e. tt)
+
+call_of-within : (r : ℕ) → 200 ≤ r → (script : Tree) (k : ObjectKind) (f : ObjectId) (this : Value) (arguments : List Value) → IsWithin r 0 (call_of script k f this arguments)
+call_of-within r enough script kind_of.Ordinary f this arguments = no_function-within r 0
+call_of-within r enough script (kind_of.Function function constructor strict) f this arguments = entering-within r 0
+call_of-within r enough script (kind_of.Builtin row constructor proxy) f this arguments = row_entered-within r 0 enough row arguments
+call_of-within r enough script kind_of.Array f this arguments = no_function-within r 0
+call_of-within r enough script (kind_of.Text t) f this arguments = no_function-within r 0
+call_of-within r enough script (kind_of.Wrapper v) f this arguments = no_function-within r 0
+call_of-within r enough script (kind_of.Arguments cells) f this arguments = no_function-within r 0
+call_of-within r enough script kind_of.Error f this arguments = no_function-within r 0
+call_of-within r enough script (kind_of.Proxy target handler callable constructor) f this arguments =
     within-cond r 0 callable (entering unwritten) not_a_function (entering-within r 0) (no_function-within r 0)
 
-call-within : (r : ℕ) (script : Tree) (f this : Value) (arguments : List Value) → IsWithin r 0 (call_program script f this arguments)
-call-within r script (value.Object f) this arguments = λ l. call_of-within r script (kind l f) f this arguments
-call-within r script value.Undefined this arguments = no_function-within r 0
-call-within r script value.Null this arguments = no_function-within r 0
-call-within r script (value.Bool x) this arguments = no_function-within r 0
-call-within r script (value.Whole n) this arguments = no_function-within r 0
-call-within r script (value.Text t) this arguments = no_function-within r 0
-call-within r script (value.Symbol s) this arguments = no_function-within r 0
+call-within : (r : ℕ) → 200 ≤ r → (script : Tree) (f this : Value) (arguments : List Value) → IsWithin r 0 (call_program script f this arguments)
+call-within r enough script (value.Object f) this arguments = λ l. call_of-within r enough script (kind l f) f this arguments
+call-within r enough script value.Undefined this arguments = no_function-within r 0
+call-within r enough script value.Null this arguments = no_function-within r 0
+call-within r enough script (value.Bool x) this arguments = no_function-within r 0
+call-within r enough script (value.Whole n) this arguments = no_function-within r 0
+call-within r enough script (value.Text t) this arguments = no_function-within r 0
+call-within r enough script (value.Symbol s) this arguments = no_function-within r 0
 
 construct_of-within : (r : ℕ) (script : Tree) (k : ObjectKind) (f : ObjectId) (arguments : List Value) (target : ObjectId) → IsWithin r 0 (construct_of script k f arguments target)
 construct_of-within r script kind_of.Ordinary f arguments target = no_constructor-within r 0
@@ -96,9 +102,9 @@ request-within r enough script (Proto o) = λ l. method-within r enough (kind l 
 request-within r enough script (SetProto o p) = λ l. method-within r enough (kind l o) (SetProto o p)
 request-within r enough script (Extensible o) = λ l. method-within r enough (kind l o) (Extensible o)
 request-within r enough script (Prevent o) = λ l. method-within r enough (kind l o) (Prevent o)
-request-within r enough script (Call f this arguments) = call-within r script f this arguments
+request-within r enough script (Call f this arguments) = call-within r enough script f this arguments
 request-within r enough script (Construct f arguments target) = λ l. construct_of-within r script (kind l f) f arguments target
-request-within r enough script (Work op operands) = tt
+request-within r enough script (Work op operands) = work-within r enough op operands
 request-within r enough script (Print line) = tt
 
 pub programs-within : AreWithin program_of

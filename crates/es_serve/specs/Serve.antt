@@ -19,6 +19,7 @@ use Rattle.es_model.specs.Program.{Program, look, change, Task, Of, Evaluating, 
 use Rattle.es_model.specs.Servers.{model_by}
 use Rattle.es_model.specs.programs.Errors.{entering, unwritten, not_a_function, not_a_constructor}
 use Rattle.ordinary_object.specs.Ordinary.{ordinary_program}
+use Rattle.plain_builtins.specs.Plain as plain
 use Rattle.evaluator.specs.Tasks as evaluator
 
 -- ---- internal methods other than Call and Construct
@@ -53,7 +54,7 @@ noting (Some site) way o k receiver p = look (λ l. if is_counted (kind l o) o k
 
 abbrev pub call_of : Tree → ObjectKind → ObjectId → Value → List Value → Program
 call_of script (kind_of.Function function constructor strict) f this arguments = entering (evaluator.call_program script function f this arguments)
-call_of script (kind_of.Builtin row constructor proxy) f this arguments = entering unwritten
+call_of script (kind_of.Builtin row constructor proxy) f this arguments = entering (plain.row_program row arguments)
 call_of script (kind_of.Proxy target handler callable constructor) f this arguments = if callable then entering unwritten else not_a_function
 call_of script other f this arguments = not_a_function
 
@@ -87,7 +88,7 @@ request_program script (Extensible o) = method_program o (Extensible o)
 request_program script (Prevent o) = method_program o (Prevent o)
 request_program script (Call f this arguments) = call_program script f this arguments
 request_program script (Construct f arguments target) = construct_program script f arguments target
-request_program script (Work operation operands) = unwritten
+request_program script (Work operation operands) = plain.work_program operation operands
 request_program script (Print line) = unwritten
 
 -- the program of each task, one line for each crate

@@ -83,11 +83,11 @@ mod tests {
             ..Descriptor::default()
         };
         let made = put(&mut heap, PropKey::Index(3), &wanted, &mut steps)?;
-        // the 28 start objects come first
+        // the 29 start objects come first
         assert!(rt;
             matches!(
                 made,
-                Turn::Done(Completion::Normal(Reply::Value(Value::Object(ObjectId(28)))))
+                Turn::Done(Completion::Normal(Reply::Value(Value::Object(ObjectId(29)))))
             )
         );
         let property = Complete::Stored {
@@ -99,15 +99,15 @@ mod tests {
             },
         };
         assert_eq!(rt;
-            heap.own(ObjectId(28), PropKey::Index(3), &mut steps),
+            heap.own(ObjectId(29), PropKey::Index(3), &mut steps),
             Some(property)
         );
-        let stripped = strip(&mut heap, ObjectId(28), PropKey::Index(3), &mut steps)?;
+        let stripped = strip(&mut heap, ObjectId(29), PropKey::Index(3), &mut steps)?;
         assert!(rt; matches!(stripped, Turn::Done(Completion::Normal(Reply::Flag(true)))));
-        assert_eq!(rt; heap.own(ObjectId(28), PropKey::Index(3), &mut steps), None);
-        assert!(rt; !heap.extensible(ObjectId(28)));
+        assert_eq!(rt; heap.own(ObjectId(29), PropKey::Index(3), &mut steps), None);
+        assert!(rt; !heap.extensible(ObjectId(29)));
         // the two turns are taken
-        let halted = strip(&mut heap, ObjectId(28), PropKey::Index(3), &mut steps);
+        let halted = strip(&mut heap, ObjectId(29), PropKey::Index(3), &mut steps);
         assert!(rt; matches!(halted, Err(Stop::Halted)));
         Ok(())
     }

@@ -13,6 +13,7 @@ mod objects;
 mod origins;
 mod properties;
 mod property_list;
+mod reading;
 mod starting;
 
 pub use heap::Heap;

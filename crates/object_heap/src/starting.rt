@@ -41,7 +41,7 @@ fn description(symbol: WellKnown) -> Option<TextId>
 
 /// One code unit for each byte.
 pub(crate) fn units_of(alloc: Global, bytes: &[u8]) -> Result<Units, NoMemory>
-    requires { length bytes.now ≤ 20 }
+    requires { length bytes.now ≤ 40 }
     ensures { IfOk result (λ units. units ≡ bytes.now) }
 {
     let mut units = Units::new(alloc);

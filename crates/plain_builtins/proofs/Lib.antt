@@ -1,0 +1,9 @@
+pub mod KeptComparisons
+pub mod KeptConversions
+pub mod KeptInstances
+pub mod KeptLists
+pub mod KeptPlain
+pub mod KeptWanted
+pub mod Orders
+pub mod PlainWithin
+pub mod RoundsEnd

@@ -1,0 +1,12 @@
+pub mod ArrayLikes
+pub mod Comparisons
+pub mod Conversions
+pub mod Counting
+pub mod Instances
+pub mod Laws
+pub mod Names
+pub mod Plain
+pub mod Printing
+pub mod Rests
+pub mod Turns
+pub mod WantedFields
