@@ -2,12 +2,17 @@
 
 ghost use Rattle.property_keys.specs.Wholes.{IsWhole};
 
+mod forest;
+mod rows;
+
 use crate::*;
 use Representation::{Ref, Smi, Tagged, Whole};
+use forest::Forest;
 use map_store::{Entry, Kind, MapId, Maps, OriginId, Representation};
 use property_keys::{
     Attributes, Counting, NoMemory, ObjectId, PropKey, Steps, SymbolId, TextId, Value,
 };
+use rows::ROWS;
 use std::test::Fail;
 
 /// A whole number, what is one class of it, and its word in three kinds of field. (2^53 - 1 is 9007199254740991.)
@@ -198,5 +203,26 @@ fn moves_are_a_list(rt: HostRuntime) -> Result<(), Fail> {
     }
     assert_eq!(rt; moves.len(), 1);
     assert_eq!(rt; *moves.at(0), item);
+    Ok(())
+}
+
+/// The number of the first row of which something else is seen. A call that was refused memory is had at the second try.
+fn first_wrong(forest: &mut Forest) -> Result<Option<usize>, NoMemory> {
+    for (number, (call, seen)) in ROWS.iter().enumerate() {
+        let answer = match forest.seen(*call) {
+            Ok(answer) => answer,
+            Err(_) => forest.seen(*call)?,
+        };
+        if answer != *seen {
+            return Ok(Some(number));
+        }
+    }
+    Ok(None)
+}
+
+#[test]
+fn fields_widen(rt: HostRuntime) -> Result<(), Fail> {
+    let mut forest = Forest::new(rt.alloc());
+    assert_eq!(rt; first_wrong(&mut forest)?, None);
     Ok(())
 }
