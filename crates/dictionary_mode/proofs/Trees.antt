@@ -1,6 +1,6 @@
 -- Trees of counts: what a node stands for, and a leaf that is written.
-use Rattle.std.proofs.Common.{◌≡◌, ◌≢◌, ◌<◌, ◌≤◌, ◌+◌, ◌-◌, ◌*◌, ◌/◌, ◌^◌, ◌++◌, ◌∷◌, [], ℕ, zero, suc, eqb, MatchBool, List, length, get_or, set, take, drop, replicate, refl, sym, ap, ◌∙◌, inl, inr, arith, length-drop, length-set, pow-suc, pow_pos, pow_mono, pow-add, mul-le-mul_right}
-use Rattle.std.specs.Prelude.{remove, slice_index}
+use Rattle.std.proofs.Common.{◌≡◌, ◌≢◌, ◌<◌, ◌≤◌, ◌+◌, ◌-◌, ◌*◌, ◌^◌, ◌++◌, ◌∷◌, [], ℕ, zero, suc, eqb, MatchBool, List, length, get_or, set, take, drop, replicate, refl, sym, ap, ◌∙◌, inl, inr, arith, length-drop, length-set, pow-suc, pow_pos, pow_mono, pow-add, mul-le-mul_right}
+use Rattle.std.specs.Prelude.{remove}
 use Rattle.std.proofs.lemmas.Bool.{cases_lt}
 use Rattle.std.proofs.lemmas.List.{ext_get_or, get_or_past, get_or-drop, get_or-replicate, length-replicate, take_at, get_or-set_same, get_or-set_other}
 use Rattle.dictionary_mode.specs.Counts.{HasPlace, IsSum, IsTree, Lacks, TakesOut, marked_from, numbers_in, room_of}

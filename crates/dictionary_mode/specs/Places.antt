@@ -1,5 +1,5 @@
 -- How a dictionary keeps its entries: slots in the order in which they were filled, and the list of the slots that are in use.
-use Rattle.std.specs.Prelude.{◌≡◌, ◌<◌, ◌≤◌, ◌^◌, ℕ, List, Option, Some, map, length, slice_index}
+use Rattle.std.specs.Prelude.{◌≡◌, ◌<◌, ◌≤◌, ℕ, List, Option, Some, map, length, slice_index}
 use Rattle.property_keys.specs.declared.keys.PropKey.{PropKey}
 use Rattle.descriptors.specs.declared.property.Complete.{Complete}
 use Rattle.dictionary_mode.specs.Entries.{entry_at, key_at}

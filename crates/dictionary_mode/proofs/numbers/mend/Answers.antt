@@ -1,4 +1,4 @@
-use Rattle.std.proofs.Common.{◌≡◌, ◌<◌, ◌≤◌, ◌+◌, ◌*◌, ℕ, length, get_or, set, length-set, ◌∙◌, arith}
+use Rattle.std.proofs.Common.{◌<◌, ◌≤◌, ◌+◌, ◌*◌, length, get_or, length-set, ◌∙◌, arith}
 use Rattle.dictionary_mode.specs.Counts.{room_of}
 use Rattle.dictionary_mode.proofs.Mending.{sums-mended, small-mended, leaves-mended}
 use Rattle.dictionary_mode.proofs.numbers.mend.Goals as goal

@@ -1,4 +1,4 @@
-use Rattle.std.proofs.Common.{◌≡◌, ℕ, List, refl, subst, sym, ◌∙◌, ap}
+use Rattle.std.proofs.Common.{ℕ, List, refl, subst, sym, ◌∙◌, ap}
 use Rattle.std.specs.Prelude.{remove}
 use Rattle.indexmap.specs.IndexMap.{get}
 use Rattle.dictionary_mode.specs.Entries.{IsPlaceOf, LacksKey}

@@ -1,6 +1,6 @@
-use Rattle.std.proofs.Common.{◌≡◌, ◌<◌, ◌≤◌, ◌+◌, ◌-◌, ◌*◌, ◌/◌, ◌^◌, ℕ, List, length, get_or, sym, ap, subst, ◌∙◌, arith}
+use Rattle.std.proofs.Common.{◌≡◌, ◌<◌, ◌≤◌, ◌+◌, ◌-◌, ◌*◌, ◌/◌, ◌^◌, length, get_or, sym, ap, subst, ◌∙◌, arith}
 use Rattle.std.proofs.lemmas.List.{get_or_read}
-use Rattle.dictionary_mode.specs.Counts.{IsTree, Numbered, numbers_in, room_of}
+use Rattle.dictionary_mode.specs.Counts.{IsTree, Numbered, numbers_in}
 use Rattle.dictionary_mode.proofs.Trees.{Descends, room-is, nonempty, descend-start, descend-left, descend-right, descend-end}
 use Rattle.dictionary_mode.proofs.numbers.Numbers.at.Goals as goal
 

@@ -1,4 +1,4 @@
-use Rattle.std.proofs.Common.{◌≡◌, ◌<◌, ◌≤◌, ◌+◌, ◌/◌, ◌^◌, ℕ, MatchBool, nat_eq, get_or, ap, subst, sym, ◌∙◌, arith}
+use Rattle.std.proofs.Common.{◌≡◌, ◌+◌, ◌/◌, ◌^◌, MatchBool, nat_eq, get_or, ap, subst, sym, ◌∙◌, arith}
 use Rattle.std.proofs.lemmas.List.{get_or_read}
 use Rattle.dictionary_mode.specs.Counts.{HasPlace, IsTree, Lacks, Numbered}
 use Rattle.dictionary_mode.proofs.Trees.{room-is, match_mark, marked-place, unmarked-lacks}

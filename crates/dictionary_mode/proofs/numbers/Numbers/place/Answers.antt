@@ -1,8 +1,7 @@
-use Rattle.std.proofs.Common.{◌≡◌, ◌<◌, ◌≤◌, ◌+◌, ◌-◌, ◌*◌, ◌/◌, ◌^◌, ℕ, List, length, get_or, sym, ap, subst, ◌∙◌, arith}
+use Rattle.std.proofs.Common.{◌≡◌, ◌+◌, ◌-◌, ◌*◌, ◌/◌, length, get_or, sym, ap, subst, ◌∙◌, arith}
 use Rattle.std.proofs.lemmas.List.{get_or_read}
-use Rattle.dictionary_mode.specs.Counts.{HasPlace, IsTree, Numbered, numbers_in, room_of}
+use Rattle.dictionary_mode.specs.Counts.{HasPlace, IsTree, Numbered, numbers_in}
 use Rattle.dictionary_mode.proofs.Trees.{Climbs, room-is, climb-start, climb-inside, climb-odd, climb-even, climb-small, climb-end, has-mark, place-is}
-use Rattle.dictionary_mode.proofs.Marks.{total}
 use Rattle.dictionary_mode.proofs.numbers.Numbers.place.Goals as goal
 use Rattle.dictionary_mode.proofs.numbers.Numbers.place.Goals.{then-node-eq1, else-node-eq1}
 

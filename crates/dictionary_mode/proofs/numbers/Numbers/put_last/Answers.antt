@@ -1,5 +1,5 @@
-use Rattle.std.proofs.Common.{◌≡◌, ◌<◌, ◌≤◌, ◌+◌, ◌*◌, ◌/◌, ◌^◌, ◌++◌, ◌∷◌, [], ℕ, List, length, get_or, set, length-set, sym, subst, ap, ◌∙◌, arith}
-use Rattle.dictionary_mode.specs.Counts.{HasPlace, IsTree, IsSum, Numbered, TakesOut, marked_from, numbers_in, room_of}
+use Rattle.std.proofs.Common.{◌≡◌, ◌<◌, ◌+◌, ◌/◌, ◌^◌, ◌++◌, ◌∷◌, [], ℕ, List, length, get_or, set, length-set, ap, ◌∙◌, arith}
+use Rattle.dictionary_mode.specs.Counts.{IsTree, Numbered, marked_from, numbers_in}
 use Rattle.dictionary_mode.proofs.Trees.{room-is, written_back, numbers-written, leaves, numbers-pushed}
 use Rattle.dictionary_mode.proofs.numbers.Numbers.put_last.Goals as goal
 
