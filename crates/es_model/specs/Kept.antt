@@ -31,11 +31,12 @@ pub record IsKnownRunning (script : Tree) (l : Lists) (body : Running) : Type 0 
 abbrev pub AreCells : Lists → List CellNo → Type 0
 AreCells l cells = AllByRecursion (IsCell l) cells
 
+-- A node need not be there: what an absent one comes to is defined too.
 abbrev pub IsKnownTask : Tree → Lists → Task → Type 0
 IsKnownTask script l (Of q) = IsKnownRequest l q
-IsKnownTask script l (Evaluating body cells name n) = IsKnownRunning script l body × AreCells l cells × IfThere (IsText l) name × (n.0 < length script.nodes)
+IsKnownTask script l (Evaluating body cells name n) = IsKnownRunning script l body × AreCells l cells × IfThere (IsText l) name
 IsKnownTask script l (Statements body cells list i) = IsKnownRunning script l body × AreCells l cells
-IsKnownTask script l (Round body cells n) = IsKnownRunning script l body × AreCells l cells × (n.0 < length script.nodes)
+IsKnownTask script l (Round body cells n) = IsKnownRunning script l body × AreCells l cells
 
 abbrev pub FitsTask : Task → Lists → Completion → Type 0
 FitsTask (Of q) l c = Fits l q c
