@@ -1,2 +1,0 @@
-pub mod TasksKept
-pub mod TasksWithin

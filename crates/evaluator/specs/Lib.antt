@@ -1,1 +1,13 @@
+pub mod Accesses
+pub mod Assignments
+pub mod Calls
+pub mod Contexts
+pub mod Errors
+pub mod Functions
+pub mod Literals
+pub mod Operators
+pub mod References
+pub mod Scopes
+pub mod Statements
 pub mod Tasks
+pub mod Values
