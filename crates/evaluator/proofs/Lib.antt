@@ -1,0 +1,3 @@
+pub mod Entering
+pub mod Joining
+pub mod Planned

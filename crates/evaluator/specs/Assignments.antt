@@ -19,7 +19,7 @@ use Rattle.evaluator.specs.Accesses.{target_reference}
 use Rattle.evaluator.specs.Contexts.{Context, convert, evaluate, evaluate_named}
 use Rattle.evaluator.specs.Operators.{apply}
 use Rattle.evaluator.specs.References.{get_value, name_of, put_value}
-use Rattle.evaluator.specs.Values.{in_profile}
+use Rattle.evaluator.specs.Values.{or_out, whole_of}
 
 -- ---- `=` (13.15.2): the target's reference, the value, the write. An anonymous function gets the name that is assigned to
 
@@ -54,7 +54,7 @@ stepped increment n = if increment then n +ℤ pos 1 else n -ℤ pos 1
 
 abbrev pub update_number : Context → (increment prefix : Bool) → Reference → Value → Program
 update_number here increment prefix r (value.Whole n) =
-    in_profile (stepped increment n) (λ m. put_value here r (value.Whole m) (value.Whole (if prefix then m else n)))
+    or_out (whole_of (stepped increment n)) (λ m. put_value here r (value.Whole m) (value.Whole (if prefix then m else n)))
 update_number here increment prefix r other = unfit
 
 abbrev pub update_converted : Context → (increment prefix : Bool) → Reference → Completion → Program

@@ -39,8 +39,11 @@ join a b next =
 
 -- ---- errors that tell a name
 
+abbrev pub throw_joined : ErrorKind → TextId → TextId → Program
+throw_joined kind a b = join a b (λ text. make_error kind text (λ o. done (Throw (value.Object o))))
+
 abbrev pub throw_named : ErrorKind → List ℕ → TextId → Program
-throw_named kind ending name = intern ending (λ e. join name e (λ text. make_error kind text (λ o. done (Throw (value.Object o)))))
+throw_named kind ending name = intern ending (λ e. throw_joined kind name e)
 
 abbrev pub not_defined : TextId → Program
 not_defined name = throw_named error.ReferenceError (codes " is not defined") name

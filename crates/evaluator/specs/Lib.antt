@@ -4,8 +4,10 @@ pub mod Calls
 pub mod Contexts
 pub mod Errors
 pub mod Functions
+pub mod Lists
 pub mod Literals
 pub mod Operators
+pub mod Plans
 pub mod References
 pub mod Scopes
 pub mod Statements

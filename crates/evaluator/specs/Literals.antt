@@ -39,7 +39,7 @@ use Rattle.evaluator.specs.Contexts.{Context, convert, evaluate, evaluate_named,
 use Rattle.evaluator.specs.Errors.{make_text}
 use Rattle.evaluator.specs.Functions.{make_function}
 use Rattle.evaluator.specs.References.{get_value, prototype_of, resolve}
-use Rattle.evaluator.specs.Values.{in_profile, with_key}
+use Rattle.evaluator.specs.Values.{or_out, whole_of, with_key}
 
 -- ---- names of functions (10.2.9 SetFunctionName, steps 1 to 5): the text of a key, or a Symbol's description in brackets, behind a prefix
 
@@ -170,7 +170,7 @@ abbrev pub primary_program : Context → Option TextId → NodeId → Primary �
 -- ResolveThisBinding (9.4.4)
 primary_program here name n primary.This = gives here.body.this
 primary_program here name n (primary.Name named) = resolve here named (read_reference here)
-primary_program here name n (primary.Number x) = in_profile x (λ m. gives (value.Whole m))
+primary_program here name n (primary.Number x) = or_out (whole_of x) (λ m. gives (value.Whole m))
 primary_program here name n (primary.Text units) = make_text units (λ t. gives (value.Text t))
 primary_program here name n primary.Null = gives value.Null
 primary_program here name n (primary.Bool b) = gives (value.Bool b)

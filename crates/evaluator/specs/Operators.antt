@@ -37,7 +37,7 @@ use Rattle.evaluator.specs.Accesses.{access_reference}
 use Rattle.evaluator.specs.Contexts.{Context, convert, evaluate, evaluate_last, given, gives, node_at, normal}
 use Rattle.evaluator.specs.Errors.{join, not_an_object}
 use Rattle.evaluator.specs.References.{delete_reference, get_value, put_value, resolve}
-use Rattle.evaluator.specs.Values.{calculate, is_nullish, is_text, is_truthy, type_name}
+use Rattle.evaluator.specs.Values.{calculate, is_nullish, is_text, is_truthy, or_out, type_name, whole_of}
 
 -- ---- unary operators (13.5)
 
@@ -77,7 +77,7 @@ plus_valued c = then_value (λ v. convert operation.ToWhole v given) c
 
 -- unary `-` (13.5.5)
 abbrev pub negated : Value → Program
-negated (value.Whole n) = gives (value.Whole (neg_ℤ n))
+negated (value.Whole n) = or_out (whole_of (neg_ℤ n)) (λ m. gives (value.Whole m))
 negated other = unfit
 
 abbrev pub minus_converted : Completion → Program
@@ -108,7 +108,7 @@ finished here finish.Give v = gives v
 finished here (finish.Put r) v = put_value here r v v
 
 abbrev pub calculated : Context → Arithmetic → Finish → Value → Value → Program
-calculated here op end (value.Whole a) (value.Whole b) = calculate op a b (λ n. finished here end (value.Whole n))
+calculated here op end (value.Whole a) (value.Whole b) = or_out (calculate op a b) (λ n. finished here end (value.Whole n))
 calculated here op end a b = unfit
 
 -- step 5: both operands to numbers

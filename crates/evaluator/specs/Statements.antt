@@ -89,7 +89,7 @@ abbrev pub declare_all : Context → List Declared → Program
 declare_all here [] = falls
 declare_all here (d ∷ ds) =
     elim d.value as (λ v. Program) [
-      None ↦ initialise here d.named.binding value.Undefined (declare_all here ds)
+      | None ↦ initialise here d.named.binding value.Undefined (declare_all here ds)
       | Some n ↦ make_text d.named.name (λ name. evaluate_named here (Some name) n (λ c. then_value (λ v. initialise here d.named.binding v (declare_all here ds)) c))
     ]
 

@@ -71,19 +71,21 @@ is_own_key l t (Sym s) = false
 abbrev pub is_in_profile : ℤ → Bool
 is_in_profile n = int_le (neg_ℤ (pos most_whole)) n && int_le n (pos most_whole)
 
--- a whole number, unless it is none of the profile
-abbrev pub in_profile : ℤ → (ℤ → Program) → Program
-in_profile n next = if is_in_profile n then next n else out_of_profile
+-- a whole number, where it is one of the profile
+abbrev pub whole_of : ℤ → Option ℤ
+whole_of n = if is_in_profile n then Some n else None
 
--- Number::add, subtract, multiply, remainder (6.1.6.1.4 to 6.1.6.1.8). There is no negative zero, and what is no number throws RangeError
-abbrev pub remainder : ℤ → ℤ → (ℤ → Program) → Program
-remainder a b next = if int_eq b (pos 0) then out_of_profile else in_profile (int_rem a b) next
+-- a number, or the error where there is none
+abbrev pub or_out : Option ℤ → (ℤ → Program) → Program
+or_out None next = out_of_profile
+or_out (Some n) next = next n
 
-abbrev pub calculate : Arithmetic → ℤ → ℤ → (ℤ → Program) → Program
-calculate arithmetic.Add a b next = in_profile (a +ℤ b) next
-calculate arithmetic.Subtract a b next = in_profile (a -ℤ b) next
-calculate arithmetic.Multiply a b next = in_profile (a *ℤ b) next
-calculate arithmetic.Remainder a b next = remainder a b next
+-- Number::add, subtract, multiply, remainder (6.1.6.1.4 to 6.1.6.1.8). There is no negative zero, and what is no number of the profile is none
+abbrev pub calculate : Arithmetic → ℤ → ℤ → Option ℤ
+calculate arithmetic.Add a b = whole_of (a +ℤ b)
+calculate arithmetic.Subtract a b = whole_of (a -ℤ b)
+calculate arithmetic.Multiply a b = whole_of (a *ℤ b)
+calculate arithmetic.Remainder a b = if int_eq b (pos 0) then None else whole_of (int_rem a b)
 
 -- ---- typeof (13.5.3, table 41)
 

@@ -18,9 +18,14 @@ pub enum Reference {
         present: bool,
     },
     /// The arguments object of the running function.
-    Arguments { value: Value },
+    Arguments {
+        value: Value,
+    },
     /// The running function, by the name of its expression.
-    Callee { name: TextId, value: Value },
+    Callee {
+        name: TextId,
+        value: Value,
+    },
     /// A property of a value, with the sites at which it is read and written.
     Property {
         base: Value,
