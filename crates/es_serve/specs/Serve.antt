@@ -20,7 +20,7 @@ use Rattle.es_model.specs.Servers.{model_by}
 use Rattle.es_model.specs.programs.Errors.{entering, unwritten, not_a_function, not_a_constructor}
 use Rattle.ordinary_object.specs.Ordinary.{ordinary_program}
 use Rattle.plain_builtins.specs.Plain as plain
-use Rattle.evaluator.specs.Tasks as evaluator
+use Rattle.evaluator.specs.Unwritten as evaluator
 
 -- ---- internal methods other than Call and Construct
 

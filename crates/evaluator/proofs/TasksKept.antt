@@ -10,7 +10,7 @@ use Rattle.es_model.specs.Program.{Evaluating, Statements, Round}
 use Rattle.es_model.specs.Sound.{IsSound}
 use Rattle.es_model.specs.Kept.{FitsTask, IsKept}
 use Rattle.es_model.proofs.SoundReads.{sound-charged}
-use Rattle.evaluator.specs.Tasks.{node_program, statements_program, round_program}
+use Rattle.evaluator.specs.Unwritten.{node_program, statements_program, round_program}
 
 pub node-kept : (w : World) (body : Running) (cells : List CellNo) (name : Option TextId) (n : NodeId) → IsSound w → IsKept (FitsTask (Evaluating body cells name n)) (node_program w.script body cells name n) w
 node-kept w body cells name n s = (s.intact, (sound-charged w 1 s, tt))

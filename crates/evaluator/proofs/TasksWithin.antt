@@ -7,7 +7,7 @@ use Rattle.es_model.specs.declared.kinds.CellNo.{CellNo}
 use Rattle.es_model.specs.declared.running.Part.{Part}
 use Rattle.es_model.specs.declared.running.Running.{Running}
 use Rattle.es_model.specs.Weights.{IsWithin}
-use Rattle.evaluator.specs.Tasks.{node_program, statements_program, round_program}
+use Rattle.evaluator.specs.Unwritten.{node_program, statements_program, round_program}
 
 pub node-within : (r : ℕ) (script : Tree) (body : Running) (cells : List CellNo) (name : Option TextId) (n : NodeId) → IsWithin r 0 (node_program script body cells name n)
 node-within r script body cells name n = tt

@@ -1,1 +1,16 @@
+pub mod Accesses
+pub mod Assignments
+pub mod Calls
+pub mod Contexts
+pub mod Errors
+pub mod Functions
+pub mod Lists
+pub mod Literals
+pub mod Operators
+pub mod Plans
+pub mod References
+pub mod Scopes
+pub mod Statements
 pub mod Tasks
+pub mod Values
+pub mod Unwritten

@@ -1,0 +1,217 @@
+//! What waits for an answer goes on with it.
+
+ghost use Rattle.evaluator.specs.Plans.{PlansAt, asked_program, flag_answered, key_answered, value_answered};
+ghost use Rattle.es_model.specs.Completions.{answered};
+
+use crate::accesses::purpose_plan;
+use crate::arithmetic::{add_primitives, calculated, joined, negated, update_number};
+use crate::cells::Cells;
+use crate::items::{Asked, Ending, FlagAsked, KeyAsked, Plan, ValueAsked};
+use crate::reading::{got_again, reading_valued};
+use crate::references::Reference;
+use crate::requests::convert;
+use crate::writing::{put_again, unless_refused};
+use es_model::{Completion, Operation, Request, Running, Stop};
+use es_tree::Checked;
+use object_heap::Heap;
+use property_keys::{Ledger, PropKey, Steps, Value};
+
+fn value_answered<L: Ledger>(
+    heap: &mut Heap,
+    script: &Checked,
+    body: Running,
+    cells: &Cells,
+    asked: ValueAsked,
+    value: Value,
+    steps: &mut Steps<L>,
+) -> Result<Plan, Stop>
+    ensures { PlansAt script.now body cells.now heap.old heap.new (λ here. value_answered here asked value) result }
+{
+    match asked {
+        ValueAsked::Read(reading) => reading_valued(
+            heap, script, body, cells, reading, value, steps,
+        ),
+        ValueAsked::MinusConverted => negated(heap, script, body, cells, value, steps),
+        ValueAsked::LeftPrimitive { finish, right } => {
+            let next = ValueAsked::RightPrimitive {
+                finish,
+                left: value,
+            };
+            convert(
+                heap,
+                script,
+                body,
+                cells,
+                Operation::ToPrimitiveDefault,
+                right,
+                Asked::Value(next),
+                steps,
+            )
+        }
+        ValueAsked::RightPrimitive { finish, left } => add_primitives(
+            heap, script, body, cells, finish, left, value, steps,
+        ),
+        ValueAsked::LeftText { finish, right } => {
+            let next = ValueAsked::RightText {
+                finish,
+                left: value,
+            };
+            convert(
+                heap,
+                script,
+                body,
+                cells,
+                Operation::ToText,
+                right,
+                Asked::Value(next),
+                steps,
+            )
+        }
+        ValueAsked::RightText { finish, left } => joined(
+            heap, script, body, cells, finish, left, value, steps,
+        ),
+        ValueAsked::LeftNumber {
+            operator,
+            finish,
+            right,
+        } => {
+            let next = ValueAsked::RightNumber {
+                operator,
+                finish,
+                left: value,
+            };
+            convert(
+                heap,
+                script,
+                body,
+                cells,
+                Operation::ToWhole,
+                right,
+                Asked::Value(next),
+                steps,
+            )
+        }
+        ValueAsked::RightNumber {
+            operator,
+            finish,
+            left,
+        } => calculated(
+            heap, script, body, cells, operator, finish, left, value, steps,
+        ),
+        ValueAsked::UpdateConverted {
+            increment,
+            prefix,
+            reference,
+        } => update_number(
+            heap, script, body, cells, increment, prefix, reference, value, steps,
+        ),
+    }
+}
+
+fn flag_answered<L: Ledger>(
+    heap: &mut Heap,
+    script: &Checked,
+    body: Running,
+    cells: &Cells,
+    asked: FlagAsked,
+    flag: bool,
+    steps: &mut Steps<L>,
+) -> Result<Plan, Stop>
+    ensures { PlansAt script.now body cells.now heap.old heap.new (λ here. flag_answered here asked flag) result }
+{
+    match asked {
+        FlagAsked::Looked { name, key, purpose } => {
+            let reference = Reference::Global {
+                name,
+                key,
+                present: flag,
+            };
+            purpose_plan(heap, script, body, cells, purpose, reference, steps)
+        }
+        FlagAsked::LookedAgain { name, key, reading } => got_again(
+            heap, script, body, cells, name, key, reading, flag, steps,
+        ),
+        FlagAsked::PutLooked {
+            name,
+            key,
+            value,
+            given,
+        } => put_again(
+            heap, script, body, cells, name, key, value, given, flag, steps,
+        ),
+        FlagAsked::PutAnswered { given } => unless_refused(
+            heap, script, body, cells, flag, given, steps,
+        ),
+        FlagAsked::DeleteAnswered => unless_refused(
+            heap,
+            script,
+            body,
+            cells,
+            flag,
+            Value::Bool(flag),
+            steps,
+        ),
+        FlagAsked::FlagGiven => Ok(Plan::Ends(Ending::Gives(Value::Bool(flag)))),
+        FlagAsked::FlagDenied => Ok(Plan::Ends(Ending::Gives(Value::Bool(!flag)))),
+    }
+}
+
+fn key_answered<L: Ledger>(
+    heap: &mut Heap,
+    script: &Checked,
+    body: Running,
+    cells: &Cells,
+    asked: KeyAsked,
+    key: PropKey,
+    steps: &mut Steps<L>,
+) -> Result<Plan, Stop>
+    ensures { PlansAt script.now body cells.now heap.old heap.new (λ here. key_answered here asked key) result }
+{
+    match asked {
+        KeyAsked::KeyConverted {
+            base,
+            read,
+            write,
+            purpose,
+        } => {
+            let reference = Reference::Property {
+                base,
+                key,
+                read,
+                write,
+            };
+            purpose_plan(heap, script, body, cells, purpose, reference, steps)
+        }
+        KeyAsked::InKeyed { object } => {
+            let request = Request::Has { object, key };
+            Ok(Plan::Ask(request, Asked::Flag(FlagAsked::FlagGiven)))
+        }
+    }
+}
+
+pub(crate) fn asked_plan<L: Ledger>(
+    heap: &mut Heap,
+    script: &Checked,
+    body: Running,
+    cells: &Cells,
+    asked: Asked,
+    answer: Completion,
+    steps: &mut Steps<L>,
+) -> Result<Plan, Stop>
+    ensures { PlansAt script.now body cells.now heap.old heap.new (λ here. asked_program here asked (answered answer)) result }
+{
+    match asked {
+        Asked::Value(next) => match answer.value() {
+            Err(thrown) => Ok(Plan::Ends(Ending::Throws(thrown))),
+            Ok(value) => value_answered(heap, script, body, cells, next, value, steps),
+        },
+        Asked::Flag(next) => match answer.flag() {
+            Err(thrown) => Ok(Plan::Ends(Ending::Throws(thrown))),
+            Ok(flag) => flag_answered(heap, script, body, cells, next, flag, steps),
+        },
+        Asked::Key(next) => match answer.key() {
+            Err(thrown) => Ok(Plan::Ends(Ending::Throws(thrown))),
+            Ok(key) => key_answered(heap, script, body, cells, next, key, steps),
+        },
+    }
+}

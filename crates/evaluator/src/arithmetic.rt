@@ -1,0 +1,373 @@
+//! ApplyStringOrNumericBinaryOperator (ECMA-262, 13.15.3), and what is done with the result.
+
+ghost use Rattle.evaluator.specs.Assignments.{update_number};
+ghost use Rattle.evaluator.specs.Operators.{add_primitives, apply, calculated, finished, joined, negated, numbers};
+ghost use Rattle.evaluator.specs.Plans.{PlansAt};
+ghost use Rattle.property_keys.specs.declared.values.Value.TheVariants as values;
+ghost use Rattle.evaluator.specs.Values.{calculate, or_out};
+
+use crate::cells::Cells;
+use crate::items::{Asked, Ending, Plan, ValueAsked};
+use crate::messages::{out_of_profile, text_too_long};
+use crate::references::{Arithmetic, Finish, Reference};
+use crate::requests::convert;
+use crate::texts::join;
+use crate::values::{is_text, negative_of, result_of, step};
+use crate::writing::put_value;
+use es_model::{Operation, Running, Stop};
+use es_tree::Checked;
+use object_heap::Heap;
+use property_keys::{Ledger, Steps, TextId, Value};
+
+fn finished<L: Ledger>(
+    heap: &mut Heap,
+    script: &Checked,
+    body: Running,
+    cells: &Cells,
+    finish: Finish,
+    value: Value,
+    steps: &mut Steps<L>,
+) -> Result<Plan, Stop>
+    ensures { PlansAt script.now body cells.now heap.old heap.new (λ here. finished here finish value) result }
+{
+    match finish {
+        Finish::Give => Ok(Plan::Ends(Ending::Gives(value))),
+        Finish::Put(reference) => put_value(
+            heap, script, body, cells, reference, value, value, steps,
+        ),
+    }
+}
+
+fn number_calculated<L: Ledger>(
+    heap: &mut Heap,
+    script: &Checked,
+    body: Running,
+    cells: &Cells,
+    operator: Arithmetic,
+    finish: Finish,
+    a: i64,
+    b: i64,
+    steps: &mut Steps<L>,
+) -> Result<Plan, Stop>
+    ensures { PlansAt script.now body cells.now heap.old heap.new (λ here. or_out (calculate operator a b) (λ n. finished here finish (values.Whole n))) result }
+{
+    match result_of(operator, a, b) {
+        None => out_of_profile(heap, script, body, cells, steps),
+        Some(n) => finished(heap, script, body, cells, finish, Value::Whole(n), steps),
+    }
+}
+
+/// Both operands are numbers.
+pub(crate) fn calculated<L: Ledger>(
+    heap: &mut Heap,
+    script: &Checked,
+    body: Running,
+    cells: &Cells,
+    operator: Arithmetic,
+    finish: Finish,
+    left: Value,
+    right: Value,
+    steps: &mut Steps<L>,
+) -> Result<Plan, Stop>
+    ensures { PlansAt script.now body cells.now heap.old heap.new (λ here. calculated here operator finish left right) result }
+{
+    match left {
+        Value::Whole(a) => match right {
+            Value::Whole(b) => number_calculated(
+                heap, script, body, cells, operator, finish, a, b, steps,
+            ),
+            Value::Undefined
+            | Value::Null
+            | Value::Bool(_)
+            | Value::Text(_)
+            | Value::Symbol(_)
+            | Value::Object(_) => Ok(Plan::Ends(Ending::Throws(Value::Undefined))),
+        },
+        Value::Undefined
+        | Value::Null
+        | Value::Bool(_)
+        | Value::Text(_)
+        | Value::Symbol(_)
+        | Value::Object(_) => Ok(Plan::Ends(Ending::Throws(Value::Undefined))),
+    }
+}
+
+fn numbers<L: Ledger>(
+    heap: &mut Heap,
+    script: &Checked,
+    body: Running,
+    cells: &Cells,
+    operator: Arithmetic,
+    finish: Finish,
+    a: Value,
+    b: Value,
+    steps: &mut Steps<L>,
+) -> Result<Plan, Stop>
+    ensures { PlansAt script.now body cells.now heap.old heap.new (λ here. numbers here operator finish a b) result }
+{
+    let next = ValueAsked::LeftNumber {
+        operator,
+        finish,
+        right: b,
+    };
+    convert(
+        heap,
+        script,
+        body,
+        cells,
+        Operation::ToWhole,
+        a,
+        Asked::Value(next),
+        steps,
+    )
+}
+
+#[tactic(auto, using(object_heap::specs::Stands::goes_none, object_heap::specs::Stands::goes_then, object_heap::specs::Stands::halts_at, crate::proofs::Planned::plans_then))]
+fn texts_joined<L: Ledger>(
+    heap: &mut Heap,
+    script: &Checked,
+    body: Running,
+    cells: &Cells,
+    finish: Finish,
+    a: TextId,
+    b: TextId,
+    steps: &mut Steps<L>,
+) -> Result<Plan, Stop>
+    ensures { PlansAt script.now body cells.now heap.old heap.new (λ here. joined here finish (values.Text a) (values.Text b)) result }
+{
+    match join(heap, a, b)? {
+        None => text_too_long(heap, script, body, cells, steps),
+        Some(text) => finished(heap, script, body, cells, finish, Value::Text(text), steps),
+    }
+}
+
+/// Both operands are texts.
+pub(crate) fn joined<L: Ledger>(
+    heap: &mut Heap,
+    script: &Checked,
+    body: Running,
+    cells: &Cells,
+    finish: Finish,
+    left: Value,
+    right: Value,
+    steps: &mut Steps<L>,
+) -> Result<Plan, Stop>
+    ensures { PlansAt script.now body cells.now heap.old heap.new (λ here. joined here finish left right) result }
+{
+    match left {
+        Value::Text(a) => match right {
+            Value::Text(b) => texts_joined(heap, script, body, cells, finish, a, b, steps),
+            Value::Undefined
+            | Value::Null
+            | Value::Bool(_)
+            | Value::Whole(_)
+            | Value::Symbol(_)
+            | Value::Object(_) => Ok(Plan::Ends(Ending::Throws(Value::Undefined))),
+        },
+        Value::Undefined
+        | Value::Null
+        | Value::Bool(_)
+        | Value::Whole(_)
+        | Value::Symbol(_)
+        | Value::Object(_) => Ok(Plan::Ends(Ending::Throws(Value::Undefined))),
+    }
+}
+
+/// Both operands are primitive values.
+pub(crate) fn add_primitives<L: Ledger>(
+    heap: &mut Heap,
+    script: &Checked,
+    body: Running,
+    cells: &Cells,
+    finish: Finish,
+    a: Value,
+    b: Value,
+    steps: &mut Steps<L>,
+) -> Result<Plan, Stop>
+    ensures { PlansAt script.now body cells.now heap.old heap.new (λ here. add_primitives here finish a b) result }
+{
+    if is_text(a) || is_text(b) {
+        let next = ValueAsked::LeftText { finish, right: b };
+        convert(
+            heap,
+            script,
+            body,
+            cells,
+            Operation::ToText,
+            a,
+            Asked::Value(next),
+            steps,
+        )
+    } else {
+        numbers(
+            heap,
+            script,
+            body,
+            cells,
+            Arithmetic::Add,
+            finish,
+            a,
+            b,
+            steps,
+        )
+    }
+}
+
+pub(crate) fn apply<L: Ledger>(
+    heap: &mut Heap,
+    script: &Checked,
+    body: Running,
+    cells: &Cells,
+    operator: Arithmetic,
+    finish: Finish,
+    a: Value,
+    b: Value,
+    steps: &mut Steps<L>,
+) -> Result<Plan, Stop>
+    ensures { PlansAt script.now body cells.now heap.old heap.new (λ here. apply here operator finish a b) result }
+{
+    match operator {
+        Arithmetic::Add => {
+            let next = ValueAsked::LeftPrimitive { finish, right: b };
+            convert(
+                heap,
+                script,
+                body,
+                cells,
+                Operation::ToPrimitiveDefault,
+                a,
+                Asked::Value(next),
+                steps,
+            )
+        }
+        Arithmetic::Subtract => numbers(
+            heap,
+            script,
+            body,
+            cells,
+            Arithmetic::Subtract,
+            finish,
+            a,
+            b,
+            steps,
+        ),
+        Arithmetic::Multiply => numbers(
+            heap,
+            script,
+            body,
+            cells,
+            Arithmetic::Multiply,
+            finish,
+            a,
+            b,
+            steps,
+        ),
+        Arithmetic::Remainder => numbers(
+            heap,
+            script,
+            body,
+            cells,
+            Arithmetic::Remainder,
+            finish,
+            a,
+            b,
+            steps,
+        ),
+    }
+}
+
+fn number_negated<L: Ledger>(
+    heap: &mut Heap,
+    script: &Checked,
+    body: Running,
+    cells: &Cells,
+    n: i64,
+    steps: &mut Steps<L>,
+) -> Result<Plan, Stop>
+    ensures { PlansAt script.now body cells.now heap.old heap.new (λ here. negated (values.Whole n)) result }
+{
+    match negative_of(n) {
+        None => out_of_profile(heap, script, body, cells, steps),
+        Some(m) => Ok(Plan::Ends(Ending::Gives(Value::Whole(m)))),
+    }
+}
+
+/// The negative of a number.
+pub(crate) fn negated<L: Ledger>(
+    heap: &mut Heap,
+    script: &Checked,
+    body: Running,
+    cells: &Cells,
+    value: Value,
+    steps: &mut Steps<L>,
+) -> Result<Plan, Stop>
+    ensures { PlansAt script.now body cells.now heap.old heap.new (λ here. negated value) result }
+{
+    match value {
+        Value::Whole(n) => number_negated(heap, script, body, cells, n, steps),
+        Value::Undefined
+        | Value::Null
+        | Value::Bool(_)
+        | Value::Text(_)
+        | Value::Symbol(_)
+        | Value::Object(_) => Ok(Plan::Ends(Ending::Throws(Value::Undefined))),
+    }
+}
+
+fn number_updated<L: Ledger>(
+    heap: &mut Heap,
+    script: &Checked,
+    body: Running,
+    cells: &Cells,
+    increment: bool,
+    prefix: bool,
+    reference: Reference,
+    n: i64,
+    steps: &mut Steps<L>,
+) -> Result<Plan, Stop>
+    ensures { PlansAt script.now body cells.now heap.old heap.new (λ here. update_number here increment prefix reference (values.Whole n)) result }
+{
+    match step(increment, n) {
+        None => out_of_profile(heap, script, body, cells, steps),
+        Some(m) => {
+            let given = if prefix { m } else { n };
+            put_value(
+                heap,
+                script,
+                body,
+                cells,
+                reference,
+                Value::Whole(m),
+                Value::Whole(given),
+                steps,
+            )
+        }
+    }
+}
+
+/// The number that an update reads.
+pub(crate) fn update_number<L: Ledger>(
+    heap: &mut Heap,
+    script: &Checked,
+    body: Running,
+    cells: &Cells,
+    increment: bool,
+    prefix: bool,
+    reference: Reference,
+    value: Value,
+    steps: &mut Steps<L>,
+) -> Result<Plan, Stop>
+    ensures { PlansAt script.now body cells.now heap.old heap.new (λ here. update_number here increment prefix reference value) result }
+{
+    match value {
+        Value::Whole(n) => number_updated(
+            heap, script, body, cells, increment, prefix, reference, n, steps,
+        ),
+        Value::Undefined
+        | Value::Null
+        | Value::Bool(_)
+        | Value::Text(_)
+        | Value::Symbol(_)
+        | Value::Object(_) => Ok(Plan::Ends(Ending::Throws(Value::Undefined))),
+    }
+}

@@ -1,0 +1,86 @@
+//! Requests with operands.
+
+ghost use Rattle.evaluator.specs.Contexts.{convert};
+ghost use Rattle.evaluator.specs.Operators.{is_less};
+ghost use Rattle.evaluator.specs.Plans.{PlansAt, asked_program};
+ghost use Rattle.std.specs.Prelude.{◌∷◌, []};
+ghost use Rattle.es_model.specs.Program.{ask};
+ghost use Rattle.es_model.specs.declared.requests.Request.TheVariants.{Work};
+
+use crate::cells::Cells;
+use crate::items::{Asked, Plan};
+use es_model::{Operation, Request, Running, Stop, Values};
+use es_tree::Checked;
+use object_heap::Heap;
+use property_keys::{Ledger, Steps, Value};
+
+/// A question with one operand.
+pub(crate) fn convert<L: Ledger>(
+    heap: &mut Heap,
+    script: &Checked,
+    body: Running,
+    cells: &Cells,
+    operation: Operation,
+    value: Value,
+    next: Asked,
+    steps: &mut Steps<L>,
+) -> Result<Plan, Stop>
+    ensures { PlansAt script.now body cells.now heap.old heap.new (λ here. convert operation value (asked_program here next)) result }
+{
+    let mut operands = Values::new(heap.alloc());
+    operands.push(value)?;
+    let request = Request::Work {
+        operation,
+        operands,
+    };
+    Ok(Plan::Ask(request, next))
+}
+
+/// A question with two operands.
+pub(crate) fn ask_of_two<L: Ledger>(
+    heap: &mut Heap,
+    script: &Checked,
+    body: Running,
+    cells: &Cells,
+    operation: Operation,
+    a: Value,
+    b: Value,
+    next: Asked,
+    steps: &mut Steps<L>,
+) -> Result<Plan, Stop>
+    ensures { PlansAt script.now body cells.now heap.old heap.new (λ here. ask (Work operation (a ∷ b ∷ [])) (asked_program here next)) result }
+{
+    let mut operands = Values::new(heap.alloc());
+    operands.push(a)?;
+    operands.push(b)?;
+    let request = Request::Work {
+        operation,
+        operands,
+    };
+    Ok(Plan::Ask(request, next))
+}
+
+/// IsLessThan (7.2.13) of two operands, with LeftFirst.
+pub(crate) fn is_less<L: Ledger>(
+    heap: &mut Heap,
+    script: &Checked,
+    body: Running,
+    cells: &Cells,
+    a: Value,
+    b: Value,
+    left_first: bool,
+    next: Asked,
+    steps: &mut Steps<L>,
+) -> Result<Plan, Stop>
+    ensures { PlansAt script.now body cells.now heap.old heap.new (λ here. is_less a b left_first (asked_program here next)) result }
+{
+    let mut operands = Values::new(heap.alloc());
+    operands.push(a)?;
+    operands.push(b)?;
+    operands.push(Value::Bool(left_first))?;
+    let request = Request::Work {
+        operation: Operation::LessThan,
+        operands,
+    };
+    Ok(Plan::Ask(request, next))
+}
