@@ -15,6 +15,7 @@ mod operators;
 mod reading;
 mod references;
 mod requests;
+mod statements;
 mod texts;
 mod tree;
 mod values;

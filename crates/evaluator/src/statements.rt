@@ -1,0 +1,452 @@
+//! Statements (ECMA-262, clause 14).
+
+ghost use Rattle.std.specs.Prelude.{◌≡◌, zero, None, OnOk, Some, length, slice_get, take};
+ghost use Rattle.property_keys.specs.declared.values.Value.TheVariants as values;
+ghost use Rattle.es_model.specs.Program.{Statements, part};
+ghost use Rattle.es_tree.specs.declared.node.Node.TheVariants as node_of;
+ghost use Rattle.evaluator.specs.Contexts.{context};
+ghost use Rattle.evaluator.specs.Plans.{PlansAt, PlansIn, ended, statement_item};
+ghost use Rattle.evaluator.specs.Scopes.{enter_scope};
+ghost use Rattle.evaluator.specs.Statements.{after_statement, for_again, for_begun, for_first, for_round, for_stepped, for_valued, if_valued, last_ended, return_valued, round_of, statement_at, statements, statements_of, throw_valued, while_again, while_valued};
+ghost use Rattle.evaluator.specs.declared.items.Ending.TheVariants as ending;
+ghost use Rattle.evaluator.specs.declared.items.Item.TheVariants as item_of;
+ghost use Rattle.evaluator.specs.declared.items.Job.TheVariants as job;
+ghost use Rattle.evaluator.specs.declared.items.Plan.TheVariants as plan;
+
+use crate::cells::{Cells, make_cells};
+use crate::endings::value_of;
+use crate::items::{Ending, Item, Job, Plan, StatementItem};
+use crate::tree::{node_at, statement_at};
+use crate::values::is_truthy;
+use es_model::{Part, Running, Stop};
+use es_tree::{Checked, Node, NodeId, Statement};
+use object_heap::Heap;
+use property_keys::{Ledger, Steps, Value};
+
+fn wait_for(node: NodeId, item: StatementItem) -> Plan
+    ensures { result ≡ plan.Wait (job.Node None node) (item_of.Statement item) }
+{
+    Plan::Wait(Job::Node { name: None, node }, Item::Statement(item))
+}
+
+fn last(node: NodeId) -> Plan
+    ensures { result ≡ plan.Last (job.Node None node) }
+{
+    Plan::Last(Job::Node { name: None, node })
+}
+
+fn falls() -> Plan
+    ensures { result ≡ plan.Ends (ending.Gives values.Undefined) }
+{
+    Plan::Ends(Ending::Gives(Value::Undefined))
+}
+
+// ---- scopes
+
+/// The statements of a block, in a scope of their own, whose end is the end.
+fn block_last<L: Ledger>(
+    heap: &mut Heap,
+    script: &Checked,
+    body: Running,
+    cells: &mut Cells,
+    names: u32,
+    list: Part,
+    steps: &mut Steps<L>,
+) -> Result<Plan, Stop>
+    ensures plans { PlansIn (context script.now body cells.old) (context script.now body cells.new) heap.old heap.new (λ here. enter_scope here names (λ inner. statements inner list zero)) result }
+    ensures front { OnOk result (take (length cells.old) cells.new ≡ cells.old) }
+{
+    make_cells(heap, cells, names)?;
+    Ok(Plan::Last(Job::Statements(list, 0)))
+}
+
+/// The same, and an item of the scope around waits for their end.
+fn block_then<L: Ledger>(
+    heap: &mut Heap,
+    script: &Checked,
+    body: Running,
+    cells: &mut Cells,
+    names: u32,
+    list: Part,
+    item: StatementItem,
+    steps: &mut Steps<L>,
+) -> Result<Plan, Stop>
+    ensures plans { PlansIn (context script.now body cells.old) (context script.now body cells.new) heap.old heap.new (λ here. enter_scope here names (λ inner. part (Statements inner.body inner.cells list zero) (statement_item here item))) result }
+    ensures front { OnOk result (take (length cells.old) cells.new ≡ cells.old) }
+{
+    let depth = cells.len();
+    make_cells(heap, cells, names)?;
+    Ok(Plan::Enter(Job::Statements(list, 0), item, depth))
+}
+
+// ---- statements one after another (14.2.2)
+
+pub(crate) fn next_statement<L: Ledger>(
+    heap: &mut Heap,
+    script: &Checked,
+    body: Running,
+    cells: &Cells,
+    list: Part,
+    i: usize,
+    steps: &mut Steps<L>,
+) -> Result<Plan, Stop>
+    ensures { PlansAt script.now body cells.now heap.old heap.new (λ here. statement_at here list i (slice_get (statements_of here.script list) i)) result }
+{
+    match statement_at(script, list, i) {
+        None => Ok(falls()),
+        Some(found) => Ok(wait_for(
+            found.node,
+            StatementItem::AfterStatement {
+                list,
+                next: found.next,
+            },
+        )),
+    }
+}
+
+// ---- loops (14.7)
+
+fn for_round<L: Ledger>(
+    heap: &mut Heap,
+    script: &Checked,
+    body: Running,
+    cells: &Cells,
+    node: NodeId,
+    test: Option<NodeId>,
+    step: Option<NodeId>,
+    statement: NodeId,
+    steps: &mut Steps<L>,
+) -> Result<Plan, Stop>
+    ensures { PlansAt script.now body cells.now heap.old heap.new (λ here. for_round here node test step statement) result }
+{
+    match test {
+        None => Ok(wait_for(statement, StatementItem::ForAgain { node, step })),
+        Some(test) => Ok(wait_for(
+            test,
+            StatementItem::ForValued {
+                node,
+                step,
+                body: statement,
+            },
+        )),
+    }
+}
+
+fn round_statement<L: Ledger>(
+    heap: &mut Heap,
+    script: &Checked,
+    body: Running,
+    cells: &Cells,
+    node: NodeId,
+    statement: &Statement,
+    steps: &mut Steps<L>,
+) -> Result<Plan, Stop>
+    ensures { PlansAt script.now body cells.now heap.old heap.new (λ here. round_of here node (Some (node_of.Statement statement.now))) result }
+{
+    match statement {
+        Statement::While { test, body: inner } => {
+            Ok(wait_for(*test, StatementItem::WhileValued { node, body: *inner }))
+        }
+        Statement::For {
+            test,
+            step,
+            body: inner,
+            ..
+        } => for_round(heap, script, body, cells, node, *test, *step, *inner, steps),
+        Statement::Block(_)
+        | Statement::Lexical { .. }
+        | Statement::Empty
+        | Statement::Expression(_)
+        | Statement::If { .. }
+        | Statement::Break
+        | Statement::Continue
+        | Statement::Return(_)
+        | Statement::Throw(_)
+        | Statement::Try { .. } => Ok(falls()),
+    }
+}
+
+fn round_node<L: Ledger>(
+    heap: &mut Heap,
+    script: &Checked,
+    body: Running,
+    cells: &Cells,
+    node: NodeId,
+    found: &Node,
+    steps: &mut Steps<L>,
+) -> Result<Plan, Stop>
+    ensures { PlansAt script.now body cells.now heap.old heap.new (λ here. round_of here node (Some found.now)) result }
+{
+    match found {
+        Node::Statement(statement) => round_statement(
+            heap, script, body, cells, node, statement, steps,
+        ),
+        Node::Operator(_) | Node::Access(_) | Node::Primary(_) => Ok(falls()),
+    }
+}
+
+/// A round of a loop.
+pub(crate) fn round<L: Ledger>(
+    heap: &mut Heap,
+    script: &Checked,
+    body: Running,
+    cells: &Cells,
+    node: NodeId,
+    steps: &mut Steps<L>,
+) -> Result<Plan, Stop>
+    ensures { PlansAt script.now body cells.now heap.old heap.new (λ here. round_of here node (slice_get here.script.nodes node.0)) result }
+{
+    match node_at(script, node) {
+        None => Ok(falls()),
+        Some(found) => round_node(heap, script, body, cells, node, found, steps),
+    }
+}
+
+fn for_again<L: Ledger>(
+    heap: &mut Heap,
+    script: &Checked,
+    body: Running,
+    cells: &Cells,
+    node: NodeId,
+    step: Option<NodeId>,
+    end: Ending,
+    steps: &mut Steps<L>,
+) -> Result<Plan, Stop>
+    ensures { PlansAt script.now body cells.now heap.old heap.new (λ here. for_again here node step (ended end)) result }
+{
+    match end {
+        Ending::Gives(_) | Ending::Continues => match step {
+            None => Ok(Plan::Last(Job::Round(node))),
+            Some(step) => Ok(wait_for(step, StatementItem::ForStepped { node })),
+        },
+        Ending::Breaks => Ok(falls()),
+        Ending::Returns(value) => Ok(Plan::Ends(Ending::Returns(value))),
+        Ending::Throws(thrown) => Ok(Plan::Ends(Ending::Throws(thrown))),
+    }
+}
+
+fn while_again<L: Ledger>(
+    heap: &mut Heap,
+    script: &Checked,
+    body: Running,
+    cells: &Cells,
+    node: NodeId,
+    end: Ending,
+    steps: &mut Steps<L>,
+) -> Result<Plan, Stop>
+    ensures { PlansAt script.now body cells.now heap.old heap.new (λ here. while_again here node (ended end)) result }
+{
+    match end {
+        Ending::Gives(_) | Ending::Continues => Ok(Plan::Last(Job::Round(node))),
+        Ending::Breaks => Ok(falls()),
+        Ending::Returns(value) => Ok(Plan::Ends(Ending::Returns(value))),
+        Ending::Throws(thrown) => Ok(Plan::Ends(Ending::Throws(thrown))),
+    }
+}
+
+fn for_begun<L: Ledger>(
+    heap: &mut Heap,
+    script: &Checked,
+    body: Running,
+    cells: &Cells,
+    node: NodeId,
+    end: Ending,
+    steps: &mut Steps<L>,
+) -> Result<Plan, Stop>
+    ensures { PlansAt script.now body cells.now heap.old heap.new (λ here. for_begun here node (ended end)) result }
+{
+    match end {
+        Ending::Gives(_) => Ok(Plan::Last(Job::Round(node))),
+        Ending::Breaks => Ok(Plan::Ends(Ending::Breaks)),
+        Ending::Continues => Ok(Plan::Ends(Ending::Continues)),
+        Ending::Returns(value) => Ok(Plan::Ends(Ending::Returns(value))),
+        Ending::Throws(thrown) => Ok(Plan::Ends(Ending::Throws(thrown))),
+    }
+}
+
+fn after_statement<L: Ledger>(
+    heap: &mut Heap,
+    script: &Checked,
+    body: Running,
+    cells: &Cells,
+    list: Part,
+    next: usize,
+    end: Ending,
+    steps: &mut Steps<L>,
+) -> Result<Plan, Stop>
+    ensures { PlansAt script.now body cells.now heap.old heap.new (λ here. after_statement here list next (ended end)) result }
+{
+    match end {
+        Ending::Gives(_) => Ok(Plan::Last(Job::Statements(list, next))),
+        Ending::Breaks => Ok(Plan::Ends(Ending::Breaks)),
+        Ending::Continues => Ok(Plan::Ends(Ending::Continues)),
+        Ending::Returns(value) => Ok(Plan::Ends(Ending::Returns(value))),
+        Ending::Throws(thrown) => Ok(Plan::Ends(Ending::Throws(thrown))),
+    }
+}
+
+fn last_ended<L: Ledger>(
+    heap: &mut Heap,
+    script: &Checked,
+    body: Running,
+    cells: &Cells,
+    before: Ending,
+    end: Ending,
+    steps: &mut Steps<L>,
+) -> Result<Plan, Stop>
+    ensures { PlansAt script.now body cells.now heap.old heap.new (λ here. last_ended (ended before) (ended end)) result }
+{
+    match end {
+        Ending::Gives(_) => Ok(Plan::Ends(before)),
+        Ending::Breaks => Ok(Plan::Ends(Ending::Breaks)),
+        Ending::Continues => Ok(Plan::Ends(Ending::Continues)),
+        Ending::Returns(value) => Ok(Plan::Ends(Ending::Returns(value))),
+        Ending::Throws(thrown) => Ok(Plan::Ends(Ending::Throws(thrown))),
+    }
+}
+
+fn while_valued<L: Ledger>(
+    heap: &mut Heap,
+    script: &Checked,
+    body: Running,
+    cells: &Cells,
+    node: NodeId,
+    statement: NodeId,
+    end: Ending,
+    steps: &mut Steps<L>,
+) -> Result<Plan, Stop>
+    ensures { PlansAt script.now body cells.now heap.old heap.new (λ here. while_valued here node statement (ended end)) result }
+{
+    match value_of(end) {
+        Err(end) => Ok(Plan::Ends(end)),
+        Ok(value) => {
+            if is_truthy(heap, value) {
+                Ok(wait_for(statement, StatementItem::WhileAgain { node }))
+            } else {
+                Ok(falls())
+            }
+        }
+    }
+}
+
+fn for_valued<L: Ledger>(
+    heap: &mut Heap,
+    script: &Checked,
+    body: Running,
+    cells: &Cells,
+    node: NodeId,
+    step: Option<NodeId>,
+    statement: NodeId,
+    end: Ending,
+    steps: &mut Steps<L>,
+) -> Result<Plan, Stop>
+    ensures { PlansAt script.now body cells.now heap.old heap.new (λ here. for_valued here node step statement (ended end)) result }
+{
+    match value_of(end) {
+        Err(end) => Ok(Plan::Ends(end)),
+        Ok(value) => {
+            if is_truthy(heap, value) {
+                Ok(wait_for(statement, StatementItem::ForAgain { node, step }))
+            } else {
+                Ok(falls())
+            }
+        }
+    }
+}
+
+fn for_stepped<L: Ledger>(
+    heap: &mut Heap,
+    script: &Checked,
+    body: Running,
+    cells: &Cells,
+    node: NodeId,
+    end: Ending,
+    steps: &mut Steps<L>,
+) -> Result<Plan, Stop>
+    ensures { PlansAt script.now body cells.now heap.old heap.new (λ here. for_stepped here node (ended end)) result }
+{
+    match value_of(end) {
+        Err(end) => Ok(Plan::Ends(end)),
+        Ok(_) => Ok(Plan::Last(Job::Round(node))),
+    }
+}
+
+fn for_statement<L: Ledger>(
+    heap: &mut Heap,
+    script: &Checked,
+    body: Running,
+    cells: &mut Cells,
+    node: NodeId,
+    names: u32,
+    first: Option<NodeId>,
+    steps: &mut Steps<L>,
+) -> Result<Plan, Stop>
+    ensures plans { PlansIn (context script.now body cells.old) (context script.now body cells.new) heap.old heap.new (λ here. enter_scope here names (λ inner. for_first inner node first)) result }
+    ensures front { OnOk result (take (length cells.old) cells.new ≡ cells.old) }
+{
+    make_cells(heap, cells, names)?;
+    match first {
+        None => Ok(Plan::Last(Job::Round(node))),
+        Some(first) => Ok(wait_for(first, StatementItem::ForBegun { node })),
+    }
+}
+
+// ---- if (14.6), return (14.10), throw (14.14)
+
+fn if_valued<L: Ledger>(
+    heap: &mut Heap,
+    script: &Checked,
+    body: Running,
+    cells: &Cells,
+    then: NodeId,
+    otherwise: Option<NodeId>,
+    end: Ending,
+    steps: &mut Steps<L>,
+) -> Result<Plan, Stop>
+    ensures { PlansAt script.now body cells.now heap.old heap.new (λ here. if_valued here then otherwise (ended end)) result }
+{
+    match value_of(end) {
+        Err(end) => Ok(Plan::Ends(end)),
+        Ok(value) => {
+            if is_truthy(heap, value) {
+                return Ok(last(then));
+            }
+            match otherwise {
+                None => Ok(falls()),
+                Some(otherwise) => Ok(last(otherwise)),
+            }
+        }
+    }
+}
+
+fn return_valued<L: Ledger>(
+    heap: &mut Heap,
+    script: &Checked,
+    body: Running,
+    cells: &Cells,
+    end: Ending,
+    steps: &mut Steps<L>,
+) -> Result<Plan, Stop>
+    ensures { PlansAt script.now body cells.now heap.old heap.new (λ here. return_valued (ended end)) result }
+{
+    match value_of(end) {
+        Err(end) => Ok(Plan::Ends(end)),
+        Ok(value) => Ok(Plan::Ends(Ending::Returns(value))),
+    }
+}
+
+fn throw_valued<L: Ledger>(
+    heap: &mut Heap,
+    script: &Checked,
+    body: Running,
+    cells: &Cells,
+    end: Ending,
+    steps: &mut Steps<L>,
+) -> Result<Plan, Stop>
+    ensures { PlansAt script.now body cells.now heap.old heap.new (λ here. throw_valued (ended end)) result }
+{
+    match value_of(end) {
+        Err(end) => Ok(Plan::Ends(end)),
+        Ok(value) => Ok(Plan::Ends(Ending::Throws(value))),
+    }
+}
