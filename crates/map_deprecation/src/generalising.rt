@@ -35,7 +35,9 @@ pub fn generalise<L: Ledger>(
     requires known { IsKnown maps.old map }
     requires within { HasEntry maps.old map i }
     requires stored { let m = map_at maps.old map in let entry = entry_at m.entries i in entry.kind ≡ kind.Stored }
-    ensures ok { let m = map_at maps.old map in let entry = entry_at m.entries i in OnOk result (Generalises tree.old tree.new maps.old maps.new map entry.key class) }
+    ensures ok { let m = map_at maps.old map in
+        let entry = entry_at m.entries i in
+        OnOk result (Generalises tree.old tree.new maps.old maps.new map entry.key class) }
     ensures tree { OnErr result (IsAsBefore tree.old tree.new) }
     ensures maps { OnErr result (maps.new ≡ maps.old) }
     ensures together { BelongTogether tree.new maps.new }

@@ -77,9 +77,9 @@ pub record LeadsFrom (e : Edge) (made : List Made) (n : ℕ) (parent : MapId) : 
 pub record IsPlaced (edges : List Edge) (made : List Made) (n : ℕ) : Type 0 where
   pub known : (made_at made n).place < length edges
   pub parent :
-    MatchOption (made_at made n).parent
-    (step_before (edge_at edges (made_at made n).place) ≡ None)
-    (LeadsFrom (edge_at edges (made_at made n).place) made n)
+      MatchOption (made_at made n).parent
+      (step_before (edge_at edges (made_at made n).place) ≡ None)
+      (LeadsFrom (edge_at edges (made_at made n).place) made n)
 
 -- the map that was made last at a place
 pub record IsLatest (made : List Made) (place : ℕ) (map : MapId) : Type 0 where
@@ -100,9 +100,9 @@ pub record IsSound (edges : List Edge) (slots : List Slot) (made : List Made) : 
   -- Pair is kept for steps of kind Accessor alone, and for each of them by which a map was made
   pub pairs : (n : ℕ) → n < length edges → (slot_at slots n).kept ≡ representation.Pair → by_accessor (edge_at edges n) ≡ true
   pub paired_maps :
-    (n : ℕ) → n < length made →
-    by_accessor (edge_at edges (made_at made n).place) ≡ true →
-    (slot_at slots (made_at made n).place).kept ≡ representation.Pair
+      (n : ℕ) → n < length made →
+      by_accessor (edge_at edges (made_at made n).place) ≡ true →
+      (slot_at slots (made_at made n).place).kept ≡ representation.Pair
 
 -- ---- the calls of a table
 

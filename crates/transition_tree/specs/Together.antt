@@ -30,9 +30,9 @@ pub record BelongTogether (tree : TreeView) (ms : MapsView) : Type 0 where
   pub stands : (map : MapId) → IsKnown ms map → StandsAt (map_at ms map) (row_of tree map)
   pub under : (map : MapId) → IsKnown ms map → MatchOption (parent_of tree map) ((row_of tree map).path ≡ []) (IsUnder tree ms map)
   pub one :
-    (early late : MapId) → early.0 < late.0 → IsKnown ms late →
-    row_of tree early ≡ row_of tree late →
-    (map_at ms early).live ≡ false
+      (early late : MapId) → early.0 < late.0 → IsKnown ms late →
+      row_of tree early ≡ row_of tree late →
+      (map_at ms early).live ≡ false
 
 -- ---- the live map of a row
 
@@ -109,5 +109,5 @@ pub record DropsBranch (tree : TreeView) (before now : MapsView) (map : MapId) :
   pub count : length now.maps ≡ length before.maps
   pub arrays : now.lengths ≡ before.lengths
   pub each :
-    (n : MapId) → IsKnown before n →
-    (IsBelow tree map n × (map_at now n ≡ dead_map (map_at before n))) ⊎ ((IsBelow tree map n → ⊥) × (map_at now n ≡ map_at before n))
+      (n : MapId) → IsKnown before n →
+      (IsBelow tree map n × (map_at now n ≡ dead_map (map_at before n))) ⊎ ((IsBelow tree map n → ⊥) × (map_at now n ≡ map_at before n))
