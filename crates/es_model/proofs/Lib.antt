@@ -24,6 +24,5 @@ pub mod Cycles
 pub mod SoundCycles
 pub mod ChainsEnd
 pub mod SoundErrors
-pub mod LongestLiteral
 pub mod SharedWithin
 pub mod SharedKept

@@ -35,7 +35,8 @@ use Rattle.es_model.specs.StartTable.{start_kind, prototype_kind}
 use Rattle.es_model.specs.StartWorld.{start_lists, start_object}
 use Rattle.es_model.specs.Grows.{fixed_kind}
 use Rattle.es_model.specs.Known.{IsObject, IsText, IfThere, IsKnown, IsKnownKey, IsKnownComplete, IsKnownProperty}
-use Rattle.es_model.specs.Sound.{IsKnownKind, AreDistinct, IsIntactObject, link, up, NeverReturns, IsShort, most_units, IsIntact, HasItsProxy, HasRow, IsRightKind}
+use Rattle.property_keys.specs.Limits.{most_units}
+use Rattle.es_model.specs.Sound.{IsKnownKind, AreDistinct, IsIntactObject, link, up, NeverReturns, IsShort, IsIntact, HasItsProxy, HasRow, IsRightKind}
 use Rattle.es_model.specs.StartLaws.{StartIsSound}
 use Rattle.es_model.proofs.SoundNew.{split}
 use Rattle.es_model.proofs.Starting.{objects-are-in-order}

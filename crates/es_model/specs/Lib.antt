@@ -25,4 +25,3 @@ pub mod Unwinding
 pub mod Weights
 pub mod World
 pub mod programs
-pub mod Definitions

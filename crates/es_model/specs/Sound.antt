@@ -1,4 +1,5 @@
 -- Sound worlds. The point on Array objects, that each has its own `length`, comes with them.
+use Rattle.property_keys.specs.Limits.{most_units}
 use Rattle.std.specs.Prelude.{◌^◌, ◌≡◌, ◌≢◌, ◌<◌, ◌≤◌, ⊤, IsTrue, ℕ, zero, suc, Bool, true, false, if◌then◌else◌, Option, Some, None, List, [], ◌∷◌, length, slice_get, option_and_then}
 use Rattle.std.specs.List.{AllByRecursion}
 use Rattle.property_keys.specs.declared.identifiers.ObjectId.{ObjectId}
@@ -58,10 +59,6 @@ NeverReturns l = (o : ObjectId) (n : ℕ) → IsObject l o → up l (suc n) o �
 -- the well-known Symbols are the first three: hasInstance, toPrimitive, toStringTag
 abbrev pub well_known : ℕ
 well_known = 3
-
--- a text has at most so many code units
-abbrev pub most_units : ℕ
-most_units = 2 ^ 20
 
 abbrev pub IsShort : List ℕ → Type 0
 IsShort units = length units ≤ most_units

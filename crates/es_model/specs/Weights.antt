@@ -1,7 +1,7 @@
 -- How much an algorithm may ask before its next charge. Each request and each part has a weight, and a charge gives a new budget: so the turns that
 -- are left bound what a task comes to.
 use Rattle.std.specs.Prelude.{ℕ, zero, suc, ◌+◌, ◌*◌, ◌<◌, Bool, true, false}
-use Rattle.es_model.specs.Definitions.{most_definitions}
+use Rattle.es_tree.specs.Definitions.{most_definitions}
 use Rattle.es_tree.specs.Tree.{Tree}
 use Rattle.es_model.specs.declared.requests.Operation.{Operation}
 use Rattle.es_model.specs.declared.requests.Operation.TheVariants as operation

@@ -4,6 +4,8 @@ use Rattle.std.specs.Prelude.{◌||◌, ◌&&◌, ◌==◌, ◌+◌, ◌-◌, �
 use Rattle.std.specs.List.{starts_with}
 use Rattle.std.specs.Char.Escape.{encode_utf16}
 use Rattle.std.specs.Str.Parse.{digits_value}
+use Rattle.property_keys.specs.Limits.{most_units}
+use Rattle.property_keys.specs.Wholes.{most_whole}
 use Rattle.es_source.specs.Characters.{starts_name, continues_name, is_digit_of, begins}
 use Rattle.es_source.specs.declared.token.TokenKind.{TokenKind}
 use Rattle.es_source.specs.declared.token.TokenKind.TheVariants.{Name, Number, Punctuator}
@@ -14,7 +16,7 @@ units_of cs = flat_map encode_utf16 cs
 
 -- A name and the value of a text have at most 2^20 code units.
 abbrev pub is_short : List ℕ → Bool
-is_short units = nat_le (length units) (2 ^ 20)
+is_short units = nat_le (length units) most_units
 
 -- How many characters the longest name at the front takes.
 abbrev pub name_length : List ℕ → ℕ
@@ -66,7 +68,7 @@ spoils_number c = (c == 46) || is_digit_of 10 c || (c == 92) || starts_name c
 abbrev pub number_at : List ℕ → Option (TokenKind × ℕ)
 number_at cs =
     let number = number_of cs in
-    if nat_le number.0 (2 ^ 53 - 1) && not (begins spoils_number (drop number.1 cs)) then Some (Number (pos number.0), number.1) else None
+    if nat_le number.0 most_whole && not (begins spoils_number (drop number.1 cs)) then Some (Number (pos number.0), number.1) else None
 
 -- The punctuators (12.8).
 abbrev pub punctuators : List (List ℕ)

@@ -5,7 +5,7 @@ use Rattle.std.specs.Str.{IsValidUpTo}
 use Rattle.es_source.specs.Forms.{punctuators, longest_punctuator}
 use Rattle.es_source.specs.Gaps.{separator_length, gap_of}
 use Rattle.es_source.specs.Places.{place_after}
-use Rattle.es_source.specs.Reading.{fault_at, reading_of, reading_of_characters}
+use Rattle.es_source.specs.Reading.{most_bytes, fault_at, reading_of, reading_of_characters}
 use Rattle.es_source.specs.declared.faults.FaultCode.TheVariants.{TooLong, NotUtf8}
 
 -- Behind a gap stands no white space, no line terminator and no comment.
@@ -21,6 +21,6 @@ PunctuatorsAreLongest = (cs p : List ℕ) → Contains punctuators p → starts_
 abbrev pub PhasesAreInOrder : Type 0
 PhasesAreInOrder =
     (bytes : List ℕ) →
-    (2 ^ 22 < length bytes → reading_of bytes ≡ Err (fault_at TooLong (place_after [])))
-    × (length bytes ≤ 2 ^ 22 → IsUtf8 bytes → reading_of bytes ≡ reading_of_characters (chars bytes))
-    × ((n : ℕ) → length bytes ≤ 2 ^ 22 → IsValidUpTo bytes n → reading_of bytes ≡ Err (fault_at NotUtf8 (place_after (chars (take n bytes)))))
+    (most_bytes < length bytes → reading_of bytes ≡ Err (fault_at TooLong (place_after [])))
+    × (length bytes ≤ most_bytes → IsUtf8 bytes → reading_of bytes ≡ reading_of_characters (chars bytes))
+    × ((n : ℕ) → length bytes ≤ most_bytes → IsValidUpTo bytes n → reading_of bytes ≡ Err (fault_at NotUtf8 (place_after (chars (take n bytes)))))

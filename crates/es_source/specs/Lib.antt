@@ -1,4 +1,5 @@
 pub mod Characters
+pub mod Codes
 pub mod Forms
 pub mod Gaps
 pub mod Laws

@@ -49,20 +49,20 @@ abbrev pub next_of : List ℕ → Next
 next_of cs = next_after cs (gap_of cs)
 
 abbrev pub fault_at : FaultCode → Place → SourceFault
-fault_at fault place = record { code = fault; line = place.line; column = place.column }
+fault_at fault place = record { code = fault; place = place }
 
 -- A token that stands after these characters and a gap. It follows a break where a line terminator, also one in a comment, stands
 -- between it and the token before.
 abbrev pub token_after : Bool → List ℕ → List ℕ → TokenKind → Token
 token_after is_first before gap form =
-    let place = place_after (before ++ gap) in
-    record { kind = form; line = place.line; column = place.column; after_break = not is_first && list_any is_line_terminator gap }
+    record { kind = form; place = place_after (before ++ gap); after_break = not is_first && list_any is_line_terminator gap }
 
 abbrev pub with_token : Token → Result (List Token) SourceFault → Result (List Token) SourceFault
 with_token token (Ok rest) = Ok (token ∷ rest)
 with_token token (Err fault) = Err fault
 
--- The tokens from here on, by what comes next. `before` is all that stands before, `cs` what is left, and `later` gives the tokens after so many characters more.
+-- The tokens from here on, by what comes next. `before` is all that stands before, `cs` what is left, and `later` gives the tokens after so many
+-- characters more.
 abbrev pub tokens_by : Bool → List ℕ → List ℕ → (ℕ → Result (List Token) SourceFault) → Next → Result (List Token) SourceFault
 tokens_by is_first before cs later Ends = Ok []
 tokens_by is_first before cs later (Fails passed) = Err (fault_at BadToken (place_after (before ++ take passed cs)))
@@ -88,10 +88,14 @@ with_ending place (Err fault) = Err fault
 abbrev pub reading_of_characters : List ℕ → Result Reading SourceFault
 reading_of_characters cs = with_ending (place_after cs) (tokens_from true [] (hashbang_length cs) cs)
 
+-- a source has at most so many bytes
+abbrev pub most_bytes : ℕ
+most_bytes = 2 ^ 22
+
 -- The tokens of bytes, or their first fault of length, of decoding or of tokens. Each phase goes over the whole file: it has at most 2^22 bytes (else
 -- TooLong at 1:1); they are UTF-8 (else NotUtf8 at the first byte after their longest front that is); and their characters have tokens.
 unfoldable pub reading_of : List ℕ → Result Reading SourceFault
 reading_of bytes =
-    if nat_lt (2 ^ 22) (length bytes) then Err (fault_at TooLong (place_after []))
+    if nat_lt most_bytes (length bytes) then Err (fault_at TooLong (place_after []))
     else (if is_utf8 bytes then reading_of_characters (chars bytes)
     else Err (fault_at NotUtf8 (place_after (chars (take (utf8_valid_len bytes) bytes)))))

@@ -1,3 +1,10 @@
+//! The faults of a file.
+
+ghost use Rattle.std.specs.Prelude.{◌≡◌};
+ghost use Rattle.es_source.specs.Codes.{code_number, fault_name};
+
+use crate::Place;
+
 /// Why a source is outside the profile. The number of a code is its place in this list, from 1.
 #[derive(Clone, Copy, Debug, PartialEq, Eq)]
 pub enum FaultCode {
@@ -21,10 +28,35 @@ pub enum FaultCode {
     Misplaced = 9,
 }
 
-/// The first fault of a source, with the line and the column at which it stands, both from 1.
+impl FaultCode {
+    /// The number of the code, from 1.
+    pub fn number(self) -> u8
+        ensures { result ≡ code_number self }
+    {
+        self as u8
+    }
+
+    /// The name of the code.
+    pub fn name(self) -> &'static str
+        ensures { result.now ≡ fault_name self }
+    {
+        match self {
+            FaultCode::TooLong => "TooLong",
+            FaultCode::NotUtf8 => "NotUtf8",
+            FaultCode::BadToken => "BadToken",
+            FaultCode::Unexpected => "Unexpected",
+            FaultCode::TooDeep => "TooDeep",
+            FaultCode::Duplicate => "Duplicate",
+            FaultCode::Capture => "Capture",
+            FaultCode::BadBinding => "BadBinding",
+            FaultCode::Misplaced => "Misplaced",
+        }
+    }
+}
+
+/// The first fault of a source, with its place.
 #[derive(Clone, Copy, Debug, PartialEq, Eq)]
 pub struct SourceFault {
     pub code: FaultCode,
-    pub line: u32,
-    pub column: u32,
+    pub place: Place,
 }

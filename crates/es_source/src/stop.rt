@@ -1,3 +1,5 @@
+//! Why a reader stops.
+
 use crate::SourceFault;
 use property_keys::NoMemory;
 

@@ -1,3 +1,6 @@
+//! Tokens (clause 12).
+
+use crate::Place;
 use property_keys::Units;
 
 /// What a token is (ECMA-262, 12.7 to 12.9).
@@ -13,12 +16,11 @@ pub enum TokenKind {
     Punctuator(Units),
 }
 
-/// A token, with the line and the column at which it begins, both from 1.
+/// A token, with the place at which it begins.
 #[derive(Debug, PartialEq, Drop)]
 pub struct Token {
     pub kind: TokenKind,
-    pub line: u32,
-    pub column: u32,
+    pub place: Place,
     /// Whether a line terminator stands between the token before and this one.
     pub after_break: bool,
 }

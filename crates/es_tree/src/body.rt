@@ -1,3 +1,5 @@
+//! The body of a function, or of the script.
+
 use crate::{FunctionNo, Items, Named, NodeId};
 use property_keys::Units;
 

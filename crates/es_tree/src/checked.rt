@@ -1,7 +1,11 @@
+//! A script without a fault.
+
 ghost use Rattle.std.specs.Prelude.{◌≡◌, ◌<◌, length, slice_get, Some};
 ghost use Rattle.std.specs.List.{AllByRecursion};
+ghost use Rattle.es_tree.specs.Definitions.{most_definitions};
 ghost use Rattle.es_tree.specs.Tree.{IsTree, children_of, top_names, tree_of};
 
+use crate::definitions::most_definitions;
 use crate::{
     Body, FunctionFacts, FunctionNo, LiteralFacts, LiteralNo, Node, NodeId, SiteFacts, SiteId,
 };
@@ -20,16 +24,19 @@ pub struct Checked {
     sites: Vec<SiteFacts>,
     script: Body,
     strict: bool,
+    longest: usize,
 }
 
 impl Model for Checked {
+    ghost use Rattle.std.specs.Prelude.{◌≡◌};
+    ghost use Rattle.es_tree.specs.Definitions.{most_definitions};
     ghost use Rattle.es_tree.specs.Tree.{Tree, IsTree, tree_of};
 
     ghost Value = { Tree };
 
     ghost view = { λ c. tree_of c.nodes.items c.places.items c.functions.items c.bodies.items c.literals.items c.sites.items c.script c.strict };
 
-    ghost invariant = { λ c. IsTree (tree_of c.nodes.items c.places.items c.functions.items c.bodies.items c.literals.items c.sites.items c.script c.strict) };
+    ghost invariant = { λ c. IsTree (tree_of c.nodes.items c.places.items c.functions.items c.bodies.items c.literals.items c.sites.items c.script c.strict) × (c.longest ≡ most_definitions c.nodes.items) };
 }
 
 impl Checked {
@@ -47,6 +54,7 @@ impl Checked {
         requires { IsTree (tree_of nodes.items places.items functions.items bodies.items literals.items sites.items script strict) }
         ensures { result ≡ tree_of nodes.items places.items functions.items bodies.items literals.items sites.items script strict }
     {
+        let longest = most_definitions(&nodes);
         Checked {
             nodes,
             places,
@@ -56,6 +64,7 @@ impl Checked {
             sites,
             script,
             strict,
+            longest,
         }
     }
 
@@ -85,6 +94,13 @@ impl Checked {
         ensures { result ≡ length self.now.sites }
     {
         self.sites.len() as u32
+    }
+
+    /// The most property definitions of an object literal.
+    pub fn most_definitions(&self) -> usize
+        ensures { result ≡ most_definitions self.now.nodes }
+    {
+        self.longest
     }
 
     /// How many lexical names the script's top scope has, which are those of the `let` and `const` among the script's own statements (ECMA-262, 16.1.7).

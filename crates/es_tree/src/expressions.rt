@@ -1,3 +1,5 @@
+//! Operators and accesses (13.3 to 13.15).
+
 use crate::{Items, NodeId, SiteId, Target};
 use property_keys::Units;
 

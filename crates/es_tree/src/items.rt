@@ -1,3 +1,5 @@
+//! A list of anything, which contracts see as the list.
+
 ghost use Rattle.std.specs.Prelude.{◌≡◌, ◌<◌, ◌++◌, ◌∷◌, [], List, length, slice_get, slice_set, Some, OnOk, OnErr};
 
 use property_keys::NoMemory;

@@ -3,6 +3,7 @@
 
 mod body;
 mod checked;
+mod definitions;
 mod expressions;
 mod facts;
 mod items;

@@ -1,3 +1,5 @@
+//! Names with what they are bound to.
+
 use crate::NodeId;
 use property_keys::Units;
 

@@ -1,3 +1,5 @@
+//! The nodes of a tree.
+
 use crate::{Access, Operator, Primary, Statement};
 
 /// A node of the tree, which is charged one turn when its evaluation starts.

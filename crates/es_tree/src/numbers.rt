@@ -1,3 +1,5 @@
+//! The numbers by which a tree names its parts.
+
 /// The number of a node of the tree: its place in the list of nodes.
 #[derive(Clone, Copy, Debug, PartialEq, Eq)]
 pub struct NodeId(pub u32);

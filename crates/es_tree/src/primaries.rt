@@ -1,3 +1,5 @@
+//! Primary expressions and property definitions (13.2).
+
 use crate::{FunctionNo, Items, LiteralNo, Named, NodeId};
 use property_keys::Units;
 

@@ -1,3 +1,5 @@
+//! Statements and declarations (clause 14).
+
 use crate::{Items, Named, NodeId};
 
 /// One name of a lexical declaration, with its value, if it has one.

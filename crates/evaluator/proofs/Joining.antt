@@ -8,7 +8,7 @@ use Rattle.property_keys.specs.declared.keys.PropKey.TheVariants.{Index, Name}
 use Rattle.property_keys.specs.Keys.{key_of, most_index}
 use Rattle.es_model.specs.Changes.{Interning, changed}
 use Rattle.es_model.specs.Program.{Program, intern}
-use Rattle.es_model.specs.Sound.{most_units}
+use Rattle.property_keys.specs.Limits.{most_units}
 use Rattle.es_model.specs.Stages.{stage_of}
 use Rattle.es_model.specs.World.{World, number_of, units_of}
 use Rattle.evaluator.specs.Errors.{join, make_text, text_too_long}

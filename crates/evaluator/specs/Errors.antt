@@ -7,7 +7,7 @@ use Rattle.es_model.specs.declared.kinds.ErrorKind.TheVariants as error
 use Rattle.es_model.specs.Completions.{Throw}
 use Rattle.es_model.specs.World.{units_of}
 use Rattle.es_model.specs.Program.{Program, done, look, intern}
-use Rattle.es_model.specs.Sound.{most_units}
+use Rattle.property_keys.specs.Limits.{most_units}
 use Rattle.es_model.specs.programs.Errors.{make_error, throw_error}
 
 -- where no whole number of the profile can be given

@@ -9,6 +9,7 @@ use Rattle.property_keys.specs.declared.values.Value.{Value}
 use Rattle.property_keys.specs.declared.values.Value.TheVariants as value
 use Rattle.property_keys.specs.Keys.{text_of_key}
 use Rattle.descriptors.specs.declared.fields.Descriptor.{Descriptor}
+use Rattle.es_source.specs.Places.{same_place}
 use Rattle.es_tree.specs.declared.body.Body.{Body}
 use Rattle.es_tree.specs.declared.facts.LiteralFacts.{LiteralFacts}
 use Rattle.es_tree.specs.declared.names.Named.{Named}
@@ -142,7 +143,7 @@ properties_at here n = properties_in (node_at here n)
 
 -- The origin of a literal's objects is the literal at its place, which is the first one there: no two literals of a script begin at one place
 abbrev pub is_at : LiteralFacts → LiteralFacts → Bool
-is_at a b = nat_eq a.line b.line && nat_eq a.column b.column
+is_at a b = same_place a.place b.place
 
 abbrev pub first_at : List LiteralFacts → LiteralFacts → ℕ
 first_at [] facts = 0

@@ -2,7 +2,7 @@
 
 ghost use Rattle.std.specs.Prelude.{◌≡◌, ◌≤◌, ◌+◌, ◌++◌, ◌∷◌, [], true, is_some, length, nat_le, slice_get, IfOk, IfSome, OnOk};
 ghost use Rattle.es_model.specs.Changes.{Interning, changed};
-ghost use Rattle.es_model.specs.Sound.{most_units};
+ghost use Rattle.property_keys.specs.Limits.{most_units};
 ghost use Rattle.es_model.specs.World.{World, number_of, units_of};
 ghost use Rattle.evaluator.specs.Plans.{joined_world};
 ghost use Rattle.evaluator.specs.Values.{key_of_text};

@@ -23,7 +23,8 @@ without_file s name = record s { asked = s.asked ++ name ∷ []; calls = with_fa
 -- a `begin` fails exactly where its call is to fail or the name is unknown; the new id is the number of the files begun before
 abbrev pub BeginsFile : FilesState → List ℕ → Result FileId Fault → FilesState → Type 0
 BeginsFile old name (Ok id) new =
-    (bytes : List ℕ) × (bytes_named old.named name ≡ Some bytes) × (next_fails old.calls ≡ false) × (id.0 ≡ length old.left) × (new ≡ with_file old name bytes)
+    (bytes : List ℕ) × (bytes_named old.named name ≡ Some bytes) × (next_fails old.calls ≡ false) × (id.0 ≡ length old.left)
+    × (new ≡ with_file old name bytes)
 BeginsFile old name (Err Failed) new = ((next_fails old.calls ≡ true) ⊎ (bytes_named old.named name ≡ None)) × (new ≡ without_file old name)
 BeginsFile old name (Err NoMemory) new = new ≡ old
 

@@ -12,8 +12,12 @@ half_of bytes = take (length bytes / 2) bytes
 
 -- a `write` fails exactly where its call is to fail, and then appends the first half of its bytes
 abbrev pub WritesBytes : {T : Type 0} → SinkState → List ℕ → Result T Fault → SinkState → Type 0
-WritesBytes old bytes (Ok value) new = (next_fails old.calls ≡ false) × (new ≡ record old { bytes = old.bytes ++ bytes; writes = counted old.writes; calls = with_call old.calls })
-WritesBytes old bytes (Err Failed) new = (next_fails old.calls ≡ true) × (new ≡ record old { bytes = old.bytes ++ half_of bytes; calls = with_fault old.calls })
+WritesBytes old bytes (Ok value) new =
+    (next_fails old.calls ≡ false)
+    × (new ≡ record old { bytes = old.bytes ++ bytes; writes = counted old.writes; calls = with_call old.calls })
+WritesBytes old bytes (Err Failed) new =
+    (next_fails old.calls ≡ true)
+    × (new ≡ record old { bytes = old.bytes ++ half_of bytes; calls = with_fault old.calls })
 WritesBytes old bytes (Err NoMemory) new = new ≡ old
 
 -- a `flush` fails exactly where its call is to fail, and is never out of memory

@@ -1,3 +1,5 @@
+//! The numbers of the calls that are to fail.
+
 ghost use Rattle.std.specs.Prelude.{◌≡◌, ◌≤◌, ◌-◌, ◌^◌, ◌++◌, ◌∷◌, [], List, ℕ, OnOk, OnErr};
 ghost use Rattle.hc_outside.specs.Calls.{has_call, next_fails, no_calls, with_call, with_fault};
 

@@ -1,3 +1,5 @@
+//! Texts of the outside, made of strings.
+
 ghost use Rattle.std.specs.Prelude.{◌≡◌, IfOk};
 
 use crate::Text;

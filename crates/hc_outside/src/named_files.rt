@@ -1,3 +1,5 @@
+//! Names with bytes.
+
 ghost use Rattle.std.specs.Prelude.{◌≡◌, ◌++◌, ◌∷◌, [], List, ℕ, OnOk, OnErr, map, option_map};
 ghost use Rattle.hc_outside.specs.Files.{bytes_named};
 

@@ -1,3 +1,5 @@
+//! A sink in memory that never fails.
+
 ghost use Rattle.std.specs.Prelude.{◌≡◌, [], Some, IsOk};
 ghost use Rattle.std.specs.Io.KnownBytes.{Keeps};
 ghost use Rattle.property_keys.specs.Counts.{counted};

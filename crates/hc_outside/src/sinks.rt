@@ -1,3 +1,5 @@
+//! Sinks, with what they tell.
+
 ghost use Rattle.std.specs.Prelude.{◌≡◌, ◌≤◌, ◌-◌, ◌^◌, List, ℕ, Option};
 ghost use Rattle.std.specs.Io.KnownBytes.{Keeps};
 ghost use Rattle.hc_outside.specs.Causes.{CountsAnswer, HasCause};

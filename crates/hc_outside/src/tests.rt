@@ -1,3 +1,5 @@
+//! Files and sinks, each call failing in turn.
+
 use super::*;
 use std::alloc::Global;
 use std::fs;

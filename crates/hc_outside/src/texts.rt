@@ -1,3 +1,5 @@
+//! A text of the outside: bytes of UTF-8.
+
 use std::convert::AsStr;
 use std::marker::Model;
 

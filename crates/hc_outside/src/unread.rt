@@ -1,3 +1,5 @@
+//! What is left of a begun file.
+
 ghost use Rattle.std.specs.Prelude.{◌≡◌, ◌≤◌, ℕ, length, take, drop, min, List};
 
 use std::marker::Model;

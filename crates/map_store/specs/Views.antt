@@ -28,7 +28,13 @@ abbrev pub no_map : MapView
 no_map = record { array = 0; origin = record { 0 = 0 }; proto = None; live = false; extensible = false; entries = [] }
 
 abbrev pub no_entry : Entry
-no_entry = record { key = Index 0; kind = Stored; attributes = record { writable = false; enumerable = false; configurable = false }; representation = representation.None; place = 0 }
+no_entry = record {
+  key = Index 0;
+  kind = Stored;
+  attributes = record { writable = false; enumerable = false; configurable = false };
+  representation = representation.None;
+  place = 0;
+}
 
 abbrev pub map_at : MapsView → MapId → MapView
 map_at ms map = slice_index_or ms.maps map.0 no_map
@@ -69,7 +75,8 @@ abbrev pub with_entry : MapView → ℕ → Entry → ℕ → MapView
 with_entry m i e array = record m { array = array; live = true; entries = slice_set m.entries i e }
 
 abbrev pub replaced : MapsView → MapId → ℕ → Entry → MapsView
-replaced ms map i e = let m = map_at ms map in record { maps = ms.maps ++ with_entry m i e (length ms.lengths) ∷ []; lengths = ms.lengths ++ length m.entries ∷ [] }
+replaced ms map i e =
+    let m = map_at ms map in record { maps = ms.maps ++ with_entry m i e (length ms.lengths) ∷ []; lengths = ms.lengths ++ length m.entries ∷ [] }
 
 abbrev pub closed_map : MapView → MapView
 closed_map m = record m { live = true; extensible = false }

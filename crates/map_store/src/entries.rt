@@ -1,3 +1,5 @@
+//! The entries of maps.
+
 use property_keys::{Attributes, PropKey};
 
 /// Whether a property holds a value, or functions that get and set it (ECMA-262, 6.1.7.1).

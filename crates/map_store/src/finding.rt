@@ -1,3 +1,5 @@
+//! The search for a key in an array of entries.
+
 ghost use Rattle.std.specs.Prelude.{◌≡◌, ◌↔◌, ◌≤◌, length, IsTrue, MatchOption};
 ghost use Rattle.map_store.specs.Keys.{IsPlace, LacksKey, compared, steps_on};
 

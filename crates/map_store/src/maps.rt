@@ -1,3 +1,5 @@
+//! Maps over shared arrays.
+
 ghost use Rattle.std.specs.Prelude.{◌≡◌, ◌↔◌, ◌<◌, ◌≤◌, ◌+◌, ◌++◌, ◌∷◌, [], length, not, OnOk, OnErr, IfOk, MatchOption, IsTrue, vec_len, vec_capacity};
 ghost use Rattle.property_keys.specs.Counts.{counted};
 ghost use Rattle.map_store.specs.Views.{IsKnown, HasEntry, KeepsEntries, map_at, entry_at, rooted, extended, replaced, closed_off, marked_dead, no_maps};

@@ -3,10 +3,11 @@ use Rattle.std.proofs.Common.{◌≡◌, ◌<◌, ◌≤◌, suc, Bool, true, fa
 use Rattle.std.specs.Prelude.{nat_eq}
 use Rattle.std.proofs.lemmas.Bool.{eqb-true}
 use Rattle.map_store.specs.declared.OriginId.{OriginId}
-use Rattle.slack_tracking.specs.declared.LiteralPlace.{LiteralPlace}
+use Rattle.es_source.specs.declared.place.Place.{Place}
 use Rattle.slack_tracking.specs.declared.OriginKind.{OriginKind}
 use Rattle.slack_tracking.specs.declared.OriginKind.TheVariants as origin
-use Rattle.object_heap.specs.Origins.{origin_place, origin_number, same_origin, same_place, with_origin}
+use Rattle.es_source.specs.Places.{same_place}
+use Rattle.object_heap.specs.Origins.{origin_place, origin_number, same_origin, with_origin}
 use Rattle.object_heap.specs.Stands.{HeapView}
 
 pub number-is : (heap : HeapView) (kind : OriginKind) (id : OriginId) → id ≡ record { 0 = origin_place heap.origins kind } → id ≡ origin_number heap kind
@@ -39,7 +40,7 @@ both : (x y : Bool) → (x && y) ≡ true → (x ≡ true) × (y ≡ true)
 both true true h = (refl, refl)
 both x y h = cc
 
-place-eq : (a b : LiteralPlace) → same_place a b ≡ true → a ≡ b
+place-eq : (a b : Place) → same_place a b ≡ true → a ≡ b
 place-eq a b e =
     let h = both (nat_eq a.line b.line) (nat_eq a.column b.column) e in
     let l = eqb-true a.line b.line h.0 in

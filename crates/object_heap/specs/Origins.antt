@@ -1,7 +1,8 @@
 -- The origins of a heap: for each number what makes its objects, what that is in a script, and how many fields its objects begin with.
 use Rattle.std.specs.Prelude.{ℕ, suc, ◌+◌, min, max, Bool, true, false, ◌&&◌, if◌then◌else◌, Option, Some, None, List, [], ◌∷◌, nat_eq, slice_get, slice_index_or}
 use Rattle.map_store.specs.declared.OriginId.{OriginId}
-use Rattle.slack_tracking.specs.declared.LiteralPlace.{LiteralPlace}
+use Rattle.es_source.specs.Places.{same_place}
+use Rattle.es_source.specs.declared.place.Place.{Place}
 use Rattle.slack_tracking.specs.declared.OriginKind.{OriginKind}
 use Rattle.slack_tracking.specs.declared.OriginKind.TheVariants as origin
 use Rattle.es_tree.specs.declared.facts.FunctionFacts.{FunctionFacts}
@@ -11,9 +12,6 @@ use Rattle.es_model.specs.Events.{Origin, OfPlain, OfFunction, OfArray, OfArgume
 use Rattle.es_model.specs.World.{World}
 use Rattle.es_model.specs.Changes.{Constructing, changed}
 use Rattle.object_heap.specs.Stands.{HeapView}
-
-abbrev pub same_place : LiteralPlace → LiteralPlace → Bool
-same_place a b = nat_eq a.line b.line && nat_eq a.column b.column
 
 abbrev pub same_origin : OriginKind → OriginKind → Bool
 same_origin origin.Plain origin.Plain = true
@@ -48,18 +46,15 @@ with_origin (k ∷ ks) kind = if same_origin k kind then k ∷ ks else k ∷ wit
 
 -- ---- what they are in a script
 
-abbrev pub begins_at : ℕ → ℕ → LiteralPlace → Bool
-begins_at line column place = nat_eq line place.line && nat_eq column place.column
-
 -- the number of the object literal at a place, or how many there are where none is there
-abbrev pub literal_at : List LiteralFacts → LiteralPlace → ℕ
+abbrev pub literal_at : List LiteralFacts → Place → ℕ
 literal_at [] place = 0
-literal_at (l ∷ ls) place = if begins_at l.line l.column place then 0 else suc (literal_at ls place)
+literal_at (l ∷ ls) place = if same_place l.place place then 0 else suc (literal_at ls place)
 
 -- the number of the function at a place
-abbrev pub function_at : List FunctionFacts → LiteralPlace → ℕ
+abbrev pub function_at : List FunctionFacts → Place → ℕ
 function_at [] place = 0
-function_at (f ∷ fs) place = if begins_at f.line f.column place then 0 else suc (function_at fs place)
+function_at (f ∷ fs) place = if same_place f.place place then 0 else suc (function_at fs place)
 
 abbrev pub origin_in : Tree → OriginKind → Origin
 origin_in script origin.Plain = OfPlain

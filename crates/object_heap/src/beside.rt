@@ -1,6 +1,7 @@
 //! Calls on texts, Symbols, cells and turns.
 
 ghost use Rattle.std.specs.Prelude.{◌≡◌, ◌+◌, ◌++◌, ◌<◌, ◌^◌, ◌↔◌, false, length, nat_le, true, IfOk, IfSome, IsErrOf, IsNone, OnErr, OnOk};
+ghost use Rattle.property_keys.specs.Limits.{most_units};
 ghost use Rattle.property_keys.specs.Decimals.{whole_units};
 ghost use Rattle.property_keys.specs.Keys.{text_of_key};
 ghost use Rattle.property_keys.specs.Texts.{text_at, IsUnknown};
@@ -63,7 +64,7 @@ impl Heap {
     pub fn concat(&mut self, a: TextId, b: TextId) -> Result<TextId, KeyFault>
         ensures number { IfOk result (λ id. (w : World) → StandsFor self.old w → id ≡ number_of w.lists (units_of w.lists a ++ units_of w.lists b)) }
         ensures ok { OnOk result ((w : World) → StandsFor self.old w → Goes self.old self.new w (changed (Interning (units_of w.lists a ++ units_of w.lists b)) w)) }
-        ensures too_long { (w : World) → StandsFor self.old w → IsErrOf result KeyFault.TooLong ↔ (2 ^ 20 < length (units_of w.lists a) + length (units_of w.lists b)) }
+        ensures too_long { (w : World) → StandsFor self.old w → IsErrOf result KeyFault.TooLong ↔ (most_units < length (units_of w.lists a) + length (units_of w.lists b)) }
         ensures err { OnErr result (Keeps self.old self.new) }
         ensures retains { Retains self.old self.new }
     {

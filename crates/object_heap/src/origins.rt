@@ -1,11 +1,11 @@
 //! The origins of objects, with their numbers.
 
 ghost use Rattle.std.specs.Prelude.{◌≡◌, [], IfOk, OnErr, OnOk};
-ghost use Rattle.object_heap.specs.Origins.{constructor_places, literal_places, origin_place, same_origin, same_place, with_origin};
+ghost use Rattle.object_heap.specs.Origins.{constructor_places, literal_places, origin_place, same_origin, with_origin};
 
 use map_store::OriginId;
 use property_keys::NoMemory;
-use slack_tracking::{LiteralPlace, OriginKind};
+use slack_tracking::OriginKind;
 use std::alloc::Global;
 use std::marker::Model;
 
@@ -74,16 +74,10 @@ fn is_same_origin(a: OriginKind, b: OriginKind) -> bool
         | (OriginKind::Arguments, OriginKind::Arguments)
         | (OriginKind::Wrapper, OriginKind::Wrapper)
         | (OriginKind::Error, OriginKind::Error) => true,
-        (OriginKind::Literal(a), OriginKind::Literal(b)) => is_same_place(a, b),
-        (OriginKind::Constructor(a), OriginKind::Constructor(b)) => is_same_place(a, b),
+        (OriginKind::Literal(a), OriginKind::Literal(b)) => a.is_same(b),
+        (OriginKind::Constructor(a), OriginKind::Constructor(b)) => a.is_same(b),
         _ => false,
     }
-}
-
-fn is_same_place(a: LiteralPlace, b: LiteralPlace) -> bool
-    ensures { result ≡ same_place a b }
-{
-    a.line == b.line && a.column == b.column
 }
 
 /// How many fields lie in an object of a literal that has so many property definitions: at least 4, at most 32.

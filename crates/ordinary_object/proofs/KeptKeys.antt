@@ -15,7 +15,8 @@ use Rattle.es_model.specs.OwnKeys.{put_index, put_key, indices_in, with_indices_
 use Rattle.es_model.specs.World.{Lists, World}
 use Rattle.es_model.specs.Program.{Of}
 use Rattle.es_model.specs.Known.{IsObject, IsKnownKey, IsKnownProperty}
-use Rattle.es_model.specs.Sound.{IsShort, most_units, IsSound}
+use Rattle.property_keys.specs.Limits.{most_units}
+use Rattle.es_model.specs.Sound.{IsShort, IsSound}
 use Rattle.es_model.specs.Kept.{FitsTask, IsKept}
 use Rattle.ordinary_object.specs.Ordinary.{ordinary_own_property_keys}
 use Rattle.es_model.proofs.SoundProperties.{all-cond, all-filter}

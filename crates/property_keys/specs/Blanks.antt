@@ -4,7 +4,8 @@ use Rattle.std.specs.List.{prefix_len, suffix_len}
 
 -- Unicode's category Zs
 abbrev pub is_space_separator : ℕ → Bool
-is_space_separator c = (c == 0x20) || ((c == 0xA0) || ((c == 0x1680) || ((nat_le 0x2000 c && nat_le c 0x200A) || ((c == 0x202F) || ((c == 0x205F) || (c == 0x3000))))))
+is_space_separator c =
+    (c == 0x20) || ((c == 0xA0) || ((c == 0x1680) || ((nat_le 0x2000 c && nat_le c 0x200A) || ((c == 0x202F) || ((c == 0x205F) || (c == 0x3000))))))
 
 -- ECMA-262, 12.2
 abbrev pub is_white_space : ℕ → Bool

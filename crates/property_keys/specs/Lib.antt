@@ -3,6 +3,7 @@ pub mod Counts
 pub mod Decimals
 pub mod Keys
 pub mod Laws
+pub mod Limits
 pub mod Numbers
 pub mod Symbols
 pub mod Texts

@@ -1,3 +1,5 @@
+//! White space and line terminators (12.2, 12.3).
+
 ghost use Rattle.std.specs.Prelude.{◌≡◌, ◌≤◌, length};
 ghost use Rattle.std.specs.List.{prefix_len, suffix_len};
 ghost use Rattle.property_keys.specs.Blanks.{is_blank, without_leading_blanks, without_trailing_blanks, trimmed};

@@ -1,3 +1,5 @@
+//! The decimal of a whole number.
+
 ghost use Rattle.std.specs.Prelude.{◌≡◌, ◌≤◌, IfOk, length};
 ghost use Rattle.property_keys.specs.Decimals.{whole_units};
 

@@ -1,3 +1,5 @@
+//! The faults of texts and numbers.
+
 /// Memory ran out, or a table has no number left. Every call that can grow something may give this answer.
 #[derive(Clone, Copy, Debug, PartialEq, Eq)]
 pub struct NoMemory;

@@ -1,3 +1,5 @@
+//! The numbers of texts, Symbols and objects.
+
 /// The number of a text in its table.
 #[derive(Clone, Copy, Debug, PartialEq, Eq, Hash)]
 pub struct TextId(pub u32);

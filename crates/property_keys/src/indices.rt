@@ -1,3 +1,5 @@
+//! Array indices (6.1.7).
+
 ghost use Rattle.std.specs.Prelude.{◌≡◌, ◌<◌, ◌↔◌, IsTrue, length, slice_index};
 ghost use Rattle.property_keys.specs.Keys.{array_index_of};
 

@@ -1,3 +1,5 @@
+//! Property keys and attributes (6.1.7).
+
 use crate::{SymbolId, TextId};
 
 /// A property key (ECMA-262, 6.1.7): an array index, another text, or a Symbol.

@@ -22,7 +22,7 @@ pub use steps::{Counting, Ledger, Steps};
 pub use symbols::Symbols;
 pub use texts::Texts;
 pub use units::{MOST_UNITS, Units};
-pub use values::{Value, same_value};
+pub use values::{MOST_WHOLE, Value, same_value};
 
 #[cfg(test)]
 mod tests;

@@ -1,3 +1,5 @@
+//! The number of a text (7.1.4.1.1).
+
 ghost use Rattle.std.specs.Prelude.{◌≡◌, ◌≢◌, ◌≤◌, ℕ, length, pos, neg_ℤ, ◌≤ℤ◌, option_map, IfSome};
 ghost use Rattle.std.specs.Char.{digit_value};
 ghost use Rattle.property_keys.specs.Numbers.{natural_of, decimal_of, radix_of_letter, radix_of, literal_of, number_of};
@@ -6,7 +8,7 @@ ghost use Rattle.property_keys.specs.Wholes.{IsWhole};
 use crate::blanks::trim;
 
 /// The greatest whole number, 2^53 - 1.
-const MOST_WHOLE: u64 = (1 << 53) - 1;
+const MOST_WHOLE: u64 = crate::MOST_WHOLE as u64;
 
 const PLUS: u16 = 43;
 

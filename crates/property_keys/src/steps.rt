@@ -1,3 +1,5 @@
+//! Counted steps.
+
 ghost use Rattle.std.specs.Prelude.{◌≡◌, ◌+◌, ◌*◌, ◌≤◌, ℕ, length};
 ghost use Rattle.property_keys.specs.Counts.{counted, TakesAtMost};
 

@@ -1,3 +1,5 @@
+//! Symbols with their descriptions.
+
 ghost use Rattle.std.specs.Prelude.{◌≡◌, ◌<◌, [], length, Some, slice_get};
 ghost use Rattle.property_keys.specs.Symbols.{MakesSymbol};
 

@@ -1,3 +1,5 @@
+//! Texts at their limits, keys and numbers of texts.
+
 ghost use Rattle.property_keys.specs.Wholes.{IsWhole};
 
 use crate::*;

@@ -1,4 +1,7 @@
+//! The table of texts.
+
 ghost use Rattle.std.specs.Prelude.{◌≡◌, ◌<◌, ◌+◌, ◌^◌, ◌++◌, ◌↔◌, [], length, IfOk, IsErrOf, IfSome, IsNone};
+ghost use Rattle.property_keys.specs.Limits.{most_units};
 ghost use Rattle.std.specs.Result.{result_ok};
 ghost use Rattle.property_keys.specs.Decimals.{whole_units};
 ghost use Rattle.property_keys.specs.Keys.{key_of, text_of_key, AnswersName, IsGoodKey, IsTextKey};
@@ -104,7 +107,7 @@ impl Texts {
         requires a { a.0 < length self.old }
         requires b { b.0 < length self.old }
         ensures text { Interns self.old self.new (text_at self.old a.0 ++ text_at self.old b.0) result }
-        ensures too_long { IsErrOf result KeyFault.TooLong ↔ (2 ^ 20 < length (text_at self.old a.0) + length (text_at self.old b.0)) }
+        ensures too_long { IsErrOf result KeyFault.TooLong ↔ (most_units < length (text_at self.old a.0) + length (text_at self.old b.0)) }
     {
         let units = Units::joined(self.alloc, self.units(a), self.units(b))?;
         match self.intern(units) {

@@ -1,4 +1,7 @@
-ghost use Rattle.std.specs.Prelude.{◌≡◌, ◌<◌, ◌≤◌, ◌+◌, ◌^◌, ◌++◌, ◌∷◌, [], ℕ, List, length, slice_get, Some, IfOk, OnOk, OnErr, IsErrOf, ◌↔◌};
+//! Lists of code units.
+
+ghost use Rattle.std.specs.Prelude.{◌≡◌, ◌<◌, ◌≤◌, ◌+◌, ◌^◌, ◌++◌, ◌∷◌, [], ℕ, List, length, slice_get, Some, IfOk, OnOk, OnErr, IsErrOf, ◌↔◌, bytes_eq};
+ghost use Rattle.property_keys.specs.Limits.{most_units};
 
 use crate::{KeyFault, NoMemory};
 use std::alloc::Global;
@@ -15,13 +18,14 @@ pub struct Units {
 }
 
 impl Model for Units {
-    ghost use Rattle.std.specs.Prelude.{List, ℕ, length, ◌≤◌, ◌^◌};
+    ghost use Rattle.std.specs.Prelude.{List, ℕ, length, ◌≤◌};
+    ghost use Rattle.property_keys.specs.Limits.{most_units};
 
     ghost Value = { List ℕ };
 
     ghost view = { λ u. u.units.items };
 
-    ghost invariant = { λ u. length u.units.items ≤ 2 ^ 20 };
+    ghost invariant = { λ u. length u.units.items ≤ most_units };
 }
 
 // A view that forgets the capacity has no `inverse`, so the comparisons are written by hand, over the list.
@@ -72,7 +76,7 @@ impl Units {
     /// Puts a unit at the end. TooLong exactly at 2^20 units, and after an error the units are as before.
     pub fn push(&mut self, unit: u16) -> Result<(), KeyFault>
         ensures ok { OnOk result (self.new ≡ self.old ++ unit ∷ []) }
-        ensures too_long { IsErrOf result KeyFault.TooLong ↔ (length self.old ≡ 2 ^ 20) }
+        ensures too_long { IsErrOf result KeyFault.TooLong ↔ (length self.old ≡ most_units) }
         ensures err { OnErr result (self.new ≡ self.old) }
     {
         if self.units.len() == MOST_UNITS {
@@ -86,7 +90,7 @@ impl Units {
 
     /// `push` where there is room.
     pub(crate) fn append(&mut self, unit: u16) -> Result<(), NoMemory>
-        requires { length self.old < 2 ^ 20 }
+        requires { length self.old < most_units }
         ensures ok { OnOk result (self.new ≡ self.old ++ unit ∷ []) }
         ensures err { OnErr result (self.new ≡ self.old) }
     {
@@ -99,7 +103,7 @@ impl Units {
     /// How many code units there are.
     pub fn len(&self) -> usize
         ensures value { result ≡ length self.now }
-        ensures most { result ≤ 2 ^ 20 }
+        ensures most { result ≤ most_units }
     {
         self.units.len()
     }
@@ -112,6 +116,34 @@ impl Units {
         self.units[i]
     }
 
+    /// A copy.
+    pub fn copied(&self, alloc: Global) -> Result<Units, NoMemory>
+        ensures { IfOk result (λ copy. copy ≡ self.now) }
+    {
+        let Ok(mut units) = Vec::with_capacity(alloc, self.len()) else {
+            return Err(NoMemory);
+        };
+        match units.extend_from_slice(self.as_slice()) {
+            Ok(()) => Ok(Units { units }),
+            Err(_) => Err(NoMemory),
+        }
+    }
+
+    /// Whether these are the code units of this ASCII text.
+    pub fn is_ascii(&self, text: &[u8]) -> bool
+        ensures { result ≡ bytes_eq self.now text.now }
+    {
+        if self.len() != text.len() {
+            return false;
+        }
+        for i in 0..text.len() {
+            if self.unit(i) != u16::from(text[i]) {
+                return false;
+            }
+        }
+        true
+    }
+
     pub(crate) fn as_slice(&self) -> &[u16]
         ensures { result.now ≡ self.now }
     {
@@ -121,7 +153,7 @@ impl Units {
     /// One text after another. TooLong exactly past 2^20 units.
     pub(crate) fn joined(alloc: Global, a: &Units, b: &Units) -> Result<Units, KeyFault>
         ensures ok { IfOk result (λ u. u ≡ a.now ++ b.now) }
-        ensures too_long { IsErrOf result KeyFault.TooLong ↔ (2 ^ 20 < length a.now + length b.now) }
+        ensures too_long { IsErrOf result KeyFault.TooLong ↔ (most_units < length a.now + length b.now) }
     {
         if a.len() + b.len() > MOST_UNITS {
             return Err(KeyFault::TooLong);

@@ -1,7 +1,12 @@
+//! Values, and when two are the same.
+
 ghost use Rattle.std.specs.Prelude.{◌≡◌, ◌↔◌, IsTrue};
 ghost use Rattle.property_keys.specs.Values.{same_value};
 
 use crate::{ObjectId, SymbolId, TextId};
+
+/// The greatest whole number, 2^53 - 1 (ECMA-262, 21.1.2.6).
+pub const MOST_WHOLE: i64 = (1 << 53) - 1;
 
 /// A value of the language (ECMA-262, 6.1). Texts, Symbols and objects are named by their numbers.
 ///

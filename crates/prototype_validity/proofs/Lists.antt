@@ -7,11 +7,11 @@ use Rattle.std.proofs.lemmas.Bool.{cases_Bool}
 use Rattle.property_keys.specs.declared.identifiers.ObjectId.{ObjectId}
 use Rattle.property_keys.specs.contracts.identifiers.ObjectIdPartialEq.TheImpl.{eq-value as object_eq}
 use Rattle.prototype_validity.specs.declared.registry.Registry.{Registry}
-use Rattle.prototype_validity.specs.declared.registry.Place.{Place}
-use Rattle.prototype_validity.specs.contracts.registry.PlacePartialEq.TheImpl.{eq-value as place_eq}
+use Rattle.prototype_validity.specs.declared.registry.ListPlace.{ListPlace}
+use Rattle.prototype_validity.specs.contracts.registry.ListPlacePartialEq.TheImpl.{eq-value as place_eq}
 use Rattle.prototype_validity.specs.Registered.{count_of, cell_at, IsListed}
 
-abbrev pub place_of : ObjectId → ℕ → Place
+abbrev pub place_of : ObjectId → ℕ → ListPlace
 place_of o n = record { object = o; number = n }
 
 pub object_equal : (a b : ObjectId) → object_eq.it a b ≡ true → a ≡ b
@@ -40,7 +40,7 @@ place_itself o n = ap (λ b. b && nat_eq n n) (object_itself o) ∙ (unsigned_De
 
 module _ (old new : Registry) (object : ObjectId) (cell : ℕ) where
   -- the cell was written past the end of the list, and nothing else
-  pub kept_by_write : ((q : Place) → get place_eq.it new.cells q ≡ cond (place_eq.it (place_of object (count_of old object)) q) (Some cell) (get place_eq.it old.cells q))
+  pub kept_by_write : ((q : ListPlace) → get place_eq.it new.cells q ≡ cond (place_eq.it (place_of object (count_of old object)) q) (Some cell) (get place_eq.it old.cells q))
       → ((o : ObjectId) → count_of new o ≡ count_of old o)
       → (o : ObjectId) (i : ℕ) → IsListed old o i → IsListed new o i
   kept_by_write write counts o i listed = record {

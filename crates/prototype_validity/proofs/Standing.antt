@@ -11,13 +11,13 @@ use Rattle.prototype_validity.specs.declared.cell.Cell.{Cell}
 use Rattle.prototype_validity.specs.declared.registry.Registry.{Registry}
 use Rattle.prototype_validity.specs.Cells.{no_cell, cell_of, includes, changed_cell, after_change, HasNoCell, IsCellOf, new_cell, Drops}
 use Rattle.prototype_validity.specs.Registered.{IsListed, cell_at, count_of}
-use Rattle.prototype_validity.specs.Sound.{IsSound}
+use Rattle.prototype_validity.specs.Sound.{IsSoundRegistry}
 
-pub sound_none : (newest : List ℕ → Option ℕ) (registry : Registry) → IsSound newest registry []
+pub sound_none : (newest : List ℕ → Option ℕ) (registry : Registry) → IsSoundRegistry newest registry []
 sound_none newest registry = record { room = omega arith; kept = λ i lt. absurd (omega arith); listed = λ i o lt. absurd (omega arith) }
 
-module _ (newest : List ℕ → Option ℕ) (registry : Registry) (cells : List Cell) (sound : IsSound newest registry cells) where
-  pub sound_grown : (now : List ℕ → Option ℕ) (grown : Registry) → ((q : List ℕ) → now q ≡ newest q) → ((o : ObjectId) (i : ℕ) → IsListed registry o i → IsListed grown o i) → IsSound now grown cells
+module _ (newest : List ℕ → Option ℕ) (registry : Registry) (cells : List Cell) (sound : IsSoundRegistry newest registry cells) where
+  pub sound_grown : (now : List ℕ → Option ℕ) (grown : Registry) → ((q : List ℕ) → now q ≡ newest q) → ((o : ObjectId) (i : ℕ) → IsListed registry o i → IsListed grown o i) → IsSoundRegistry now grown cells
   sound_grown now grown same keeps = record {
     room = sound.room;
     kept = λ i lt h. same _ ∙ sound.kept i lt h;
@@ -42,7 +42,7 @@ module _ (newest : List ℕ → Option ℕ) (registry : Registry) (cells : List 
       ]
 
   -- a chain of which no cell holds has another newest cell
-  pub sound_newest : (chain : List ℕ) (n : ℕ) (now : List ℕ → Option ℕ) → HasNoCell cells chain → ((q : List ℕ) → now q ≡ cond (bytes_eq chain q) (Some n) (newest q)) → IsSound now registry cells
+  pub sound_newest : (chain : List ℕ) (n : ℕ) (now : List ℕ → Option ℕ) → HasNoCell cells chain → ((q : List ℕ) → now q ≡ cond (bytes_eq chain q) (Some n) (newest q)) → IsSoundRegistry now registry cells
   sound_newest chain n now none update = record {
     room = sound.room;
     kept = λ i lt h. let q = (cell_of cells i).chain in
@@ -55,7 +55,7 @@ module _ (newest : List ℕ → Option ℕ) (registry : Registry) (cells : List 
 
   -- a cell more
   pub sound_entered : (chain : List ℕ) → newest chain ≡ Some (length cells) → ((o : ObjectId) → includes o.0 chain ≡ true → IsListed registry o (length cells)) → length cells + 1 < 2 ^ 32
-      → IsSound newest registry (cells ++ new_cell chain ∷ [])
+      → IsSoundRegistry newest registry (cells ++ new_cell chain ∷ [])
   sound_entered chain h lists room = record {
     room = omega (arith, length-append cells (new_cell chain ∷ []));
     kept = λ i lt t. elim (cases_lt i (length cells)) [
@@ -92,8 +92,8 @@ unchanged object c h =
 pub cell_after : (cells : List Cell) (object i : ℕ) → i < length cells → cell_of (after_change cells object) i ≡ changed_cell object (cell_of cells i)
 cell_after cells object i lt = get_or-map (changed_cell object) cells i no_cell no_cell lt
 
-pub sound_changed : (newest : List ℕ → Option ℕ) (registry now : Registry) (cells : List Cell) (object : ObjectId) → IsSound newest registry cells
-    → ((o : ObjectId) (i : ℕ) → o ≢ object → IsListed registry o i → IsListed now o i) → IsSound newest now (after_change cells object.0)
+pub sound_changed : (newest : List ℕ → Option ℕ) (registry now : Registry) (cells : List Cell) (object : ObjectId) → IsSoundRegistry newest registry cells
+    → ((o : ObjectId) (i : ℕ) → o ≢ object → IsListed registry o i → IsListed now o i) → IsSoundRegistry newest now (after_change cells object.0)
 sound_changed newest registry now cells object sound keeps = record {
   room = omega (arith, length-map cells (changed_cell object.0), sound.room);
   kept = λ i lt h.
@@ -169,7 +169,7 @@ dropped_nothing registry old new object count before none = record {
 }
 
 -- once all places are gone over, every cell is as the change leaves it
-pub dropped_all : (newest : List ℕ → Option ℕ) (registry : Registry) (old new : List Cell) (object : ObjectId) → IsSound newest registry old
+pub dropped_all : (newest : List ℕ → Option ℕ) (registry : Registry) (old new : List Cell) (object : ObjectId) → IsSoundRegistry newest registry old
     → Dropped registry old new object (count_of registry object) → new ≡ after_change old object.0
 dropped_all newest registry old new object sound dropped =
     ext_get_or no_cell new (after_change old object.0) (dropped.size ∙ sym (length-map old (changed_cell object.0)))

@@ -36,7 +36,9 @@ new_cell chain = record { chain = chain; holds = true }
 
 -- the known cell with this chain that holds, where there is one, and else a new one at the end of the list
 abbrev pub GivesCell : {E : Type 0} → List Cell → List Cell → List ℕ → Result CellId E → Type 0
-GivesCell old new chain (Ok id) = (IsCellOf old chain id.0 × (new ≡ old)) ⊎ (HasNoCell old chain × (id.0 ≡ length old) × (new ≡ old ++ new_cell chain ∷ []))
+GivesCell old new chain (Ok id) =
+    (IsCellOf old chain id.0 × (new ≡ old))
+    ⊎ (HasNoCell old chain × (id.0 ≡ length old) × (new ≡ old ++ new_cell chain ∷ []))
 GivesCell old new chain (Err fault) = new ≡ old
 
 -- one cell was changed for the object, if there is one of that number

@@ -4,7 +4,7 @@ use Rattle.std.specs.HashMap.{get}
 use Rattle.property_keys.specs.declared.identifiers.ObjectId.{ObjectId}
 use Rattle.property_keys.specs.contracts.identifiers.ObjectIdPartialEq.TheImpl.{eq-value as object_eq}
 use Rattle.prototype_validity.specs.declared.registry.Registry.{Registry}
-use Rattle.prototype_validity.specs.contracts.registry.PlacePartialEq.TheImpl.{eq-value as place_eq}
+use Rattle.prototype_validity.specs.contracts.registry.ListPlacePartialEq.TheImpl.{eq-value as place_eq}
 
 abbrev pub count_of : Registry → ObjectId → ℕ
 count_of registry object = unwrap_or (get object_eq.it registry.counts object) 0

@@ -6,7 +6,11 @@ use Rattle.prototype_validity.specs.declared.registry.Registry.{Registry}
 use Rattle.prototype_validity.specs.Cells.{cell_of, includes}
 use Rattle.prototype_validity.specs.Registered.{IsListed}
 
-pub record IsSound (newest : List ℕ → Option ℕ) (registry : Registry) (cells : List Cell) : Type 0 where
+pub record IsSoundRegistry (newest : List ℕ → Option ℕ) (registry : Registry) (cells : List Cell) : Type 0 where
   pub room : length cells < 2 ^ 32
   pub kept : (i : ℕ) → i < length cells → (cell_of cells i).holds ≡ true → newest (cell_of cells i).chain ≡ Some i
-  pub listed : (i : ℕ) (o : ObjectId) → i < length cells → (cell_of cells i).holds ≡ true → includes o.0 (cell_of cells i).chain ≡ true → IsListed registry o i
+  pub listed : (i : ℕ) (o : ObjectId)
+      → i < length cells
+      → (cell_of cells i).holds ≡ true
+      → includes o.0 (cell_of cells i).chain ≡ true
+      → IsListed registry o i

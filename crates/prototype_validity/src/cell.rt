@@ -1,3 +1,5 @@
+//! A validity cell.
+
 use crate::ObjectList;
 
 /// The number of a validity cell.

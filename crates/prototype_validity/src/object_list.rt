@@ -1,3 +1,5 @@
+//! A list of objects.
+
 ghost use Rattle.std.specs.Prelude.{◌≡◌, ◌++◌, ◌∷◌, ◌<◌, [], ℕ, length, nat_eq, slice_index, IfOk, OnErr, OnOk};
 ghost use Rattle.std.specs.List.{list_any};
 

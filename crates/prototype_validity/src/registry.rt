@@ -1,3 +1,5 @@
+//! The cells of each object.
+
 ghost use Rattle.std.specs.Prelude.{◌≡◌, ◌≢◌, ◌<◌, ℕ, Some, OnOk};
 ghost use Rattle.property_keys.specs.declared.identifiers.ObjectId.{ObjectId};
 ghost use Rattle.prototype_validity.specs.Registered.{IsListed, count_of, cell_at};
@@ -8,7 +10,7 @@ use std::collections::HashMap;
 
 /// A place in the list of cells of an object.
 #[derive(Clone, Copy, Debug, PartialEq, Eq, Hash)]
-pub(crate) struct Place {
+pub(crate) struct ListPlace {
     pub(crate) object: ObjectId,
     pub(crate) number: u32,
 }
@@ -19,7 +21,7 @@ pub(crate) struct Registry {
     /// How long the list of an object is.
     pub(crate) counts: HashMap<ObjectId, u32>,
     /// What stands in the lists, and past their ends what stood there before.
-    pub(crate) cells: HashMap<Place, u32>,
+    pub(crate) cells: HashMap<ListPlace, u32>,
 }
 
 impl Registry {
@@ -43,7 +45,7 @@ impl Registry {
     pub(crate) fn cell(&self, object: ObjectId, number: u32) -> Option<u32>
         ensures { result ≡ cell_at self.now object number }
     {
-        self.cells.get(&Place { object, number }).copied()
+        self.cells.get(&ListPlace { object, number }).copied()
     }
 
     /// Puts a cell at the end of the list of an object. What is listed stays so, after `NoMemory` too.
@@ -55,7 +57,7 @@ impl Registry {
         if number == u32::MAX {
             return Err(NoMemory);
         }
-        let Ok(_) = self.cells.insert(Place { object, number }, cell) else {
+        let Ok(_) = self.cells.insert(ListPlace { object, number }, cell) else {
             return Err(NoMemory);
         };
         let Ok(_) = self.counts.insert(object, number + 1) else {

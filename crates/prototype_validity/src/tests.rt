@@ -1,3 +1,5 @@
+//! Tables of chains and changes.
+
 use crate::{CellId, ObjectList, Validity};
 use property_keys::{Counting, Ledger, NoMemory, ObjectId, Steps};
 use std::alloc::Global;

@@ -1,3 +1,5 @@
+//! All cells.
+
 ghost use Rattle.std.specs.Prelude.{◌≡◌, ◌<◌, ◌++◌, ◌∷◌, [], ℕ, true, length, IfOk, IfSome, IsNone, OnErr, OnOk};
 ghost use Rattle.property_keys.specs.Counts.{counted};
 ghost use Rattle.prototype_validity.specs.Cells.{Drops, GivesCell, HasNoCell, IsCellOf, after_change, cell_of, includes, new_cell};
@@ -27,13 +29,13 @@ impl Model for Validity {
     ghost use Rattle.std.specs.HashMap.{get};
     ghost use Rattle.std.specs.Str.{bytes_eq};
     ghost use Rattle.prototype_validity.specs.declared.cell.Cell.{Cell};
-    ghost use Rattle.prototype_validity.specs.Sound.{IsSound};
+    ghost use Rattle.prototype_validity.specs.Sound.{IsSoundRegistry};
 
     ghost Value = { List Cell };
 
     ghost view = { λ v. v.cells.items };
 
-    ghost invariant = { λ v. IsSound (λ chain. get bytes_eq v.newest chain) v.registry v.cells.items };
+    ghost invariant = { λ v. IsSoundRegistry (λ chain. get bytes_eq v.newest chain) v.registry v.cells.items };
 }
 
 impl Validity {

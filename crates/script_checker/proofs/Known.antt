@@ -13,11 +13,11 @@ use Rattle.es_source.specs.declared.place.Place.{Place}
 use Rattle.es_tree.specs.declared.primaries.Primary.{Primary}
 use Rattle.es_tree.specs.declared.primaries.Primary.TheVariants as primary
 use Rattle.es_tree.specs.Tree.{IsBody, IsOrdered, NamesKnown, children_of, empty_body, key_children, optional, property_children}
-use Rattle.script_checker.specs.declared.values.Item.{Item}
-use Rattle.script_checker.specs.declared.values.Item.TheVariants as item
-use Rattle.script_checker.specs.declared.values.Value.{Value}
-use Rattle.script_checker.specs.declared.values.Value.TheVariants as value
-use Rattle.script_checker.specs.Made.{Made, Part, add_node, part, script_tree, with_node, with_one}
+use Rattle.script_checker.specs.declared.made_parts.MadePart.{MadePart}
+use Rattle.script_checker.specs.declared.made_parts.MadePart.TheVariants as made_part
+use Rattle.script_checker.specs.declared.made_parts.MadeParts.{MadeParts}
+use Rattle.script_checker.specs.declared.made_parts.MadeParts.TheVariants as made_parts
+use Rattle.script_checker.specs.Made.{Made, PartWithMade, add_node, part, script_tree, with_node, with_one}
 
 -- ---- there is at least as much of each
 
@@ -56,42 +56,42 @@ there_below m (Some n) h = (h, tt)
 
 -- ---- parts whose numbers are there
 
-abbrev pub KnownItem : Made → Item → Type 0
-KnownItem m (item.Node n) = n.0 < length m.nodes
-KnownItem m (item.Bind d) = Below (length m.nodes) (optional d.value)
-KnownItem m (item.Key k) = Below (length m.nodes) (key_children k)
-KnownItem m (item.Property p) = Below (length m.nodes) (property_children p)
-KnownItem m (item.Block b) = Below (length m.nodes) b.items
-KnownItem m (item.Catch c) = Below (length m.nodes) c.block.items
-KnownItem m (item.Function f own) = f.0 < length m.functions
+abbrev pub KnownItem : Made → MadePart → Type 0
+KnownItem m (made_part.Node n) = n.0 < length m.nodes
+KnownItem m (made_part.Bind d) = Below (length m.nodes) (optional d.value)
+KnownItem m (made_part.Key k) = Below (length m.nodes) (key_children k)
+KnownItem m (made_part.Property p) = Below (length m.nodes) (property_children p)
+KnownItem m (made_part.Block b) = Below (length m.nodes) b.items
+KnownItem m (made_part.Catch c) = Below (length m.nodes) c.block.items
+KnownItem m (made_part.Function f own) = f.0 < length m.functions
 KnownItem m other = Unit {0}
 
-abbrev pub KnownItems : Made → List Item → Type 0
+abbrev pub KnownItems : Made → List MadePart → Type 0
 KnownItems m xs = AllByRecursion (KnownItem m) xs
 
-abbrev pub KnownValue : Made → Value → Type 0
-KnownValue m (value.One x) = KnownItem m x
-KnownValue m (value.Many xs) = KnownItems m xs
+abbrev pub KnownValue : Made → MadeParts → Type 0
+KnownValue m (made_parts.One x) = KnownItem m x
+KnownValue m (made_parts.Many xs) = KnownItems m xs
 
-pub item_later : (x : Item) (m m' : Made) → Reaches m m' → KnownItem m x → KnownItem m' x
-item_later item.Nothing m m' r k = tt
-item_later (item.Node n) m m' r k = omega arith
-item_later item.Hole m m' r k = tt
-item_later (item.Name n) m m' r k = tt
-item_later (item.Bind d) m m' r k = below_later (optional d.value) (length m.nodes) (length m'.nodes) r.nodes k
-item_later (item.Key y) m m' r k = below_later (key_children y) (length m.nodes) (length m'.nodes) r.nodes k
-item_later (item.Property p) m m' r k = below_later (property_children p) (length m.nodes) (length m'.nodes) r.nodes k
-item_later (item.Block b) m m' r k = below_later b.items (length m.nodes) (length m'.nodes) r.nodes k
-item_later (item.Catch c) m m' r k = below_later c.block.items (length m.nodes) (length m'.nodes) r.nodes k
-item_later (item.Function f own) m m' r k = omega arith
+pub item_later : (x : MadePart) (m m' : Made) → Reaches m m' → KnownItem m x → KnownItem m' x
+item_later made_part.Nothing m m' r k = tt
+item_later (made_part.Node n) m m' r k = omega arith
+item_later made_part.Hole m m' r k = tt
+item_later (made_part.Name n) m m' r k = tt
+item_later (made_part.Bind d) m m' r k = below_later (optional d.value) (length m.nodes) (length m'.nodes) r.nodes k
+item_later (made_part.Key y) m m' r k = below_later (key_children y) (length m.nodes) (length m'.nodes) r.nodes k
+item_later (made_part.Property p) m m' r k = below_later (property_children p) (length m.nodes) (length m'.nodes) r.nodes k
+item_later (made_part.Block b) m m' r k = below_later b.items (length m.nodes) (length m'.nodes) r.nodes k
+item_later (made_part.Catch c) m m' r k = below_later c.block.items (length m.nodes) (length m'.nodes) r.nodes k
+item_later (made_part.Function f own) m m' r k = omega arith
 
-pub items_later : (xs : List Item) (m m' : Made) → Reaches m m' → KnownItems m xs → KnownItems m' xs
+pub items_later : (xs : List MadePart) (m m' : Made) → Reaches m m' → KnownItems m xs → KnownItems m' xs
 items_later [] m m' r k = tt
 items_later (x ∷ xs) m m' r k = (item_later x m m' r k.0, items_later xs m m' r k.1)
 
-pub value_later : (v : Value) (m m' : Made) → Reaches m m' → KnownValue m v → KnownValue m' v
-value_later (value.One x) m m' r k = item_later x m m' r k
-value_later (value.Many xs) m m' r k = items_later xs m m' r k
+pub value_later : (v : MadeParts) (m m' : Made) → Reaches m m' → KnownValue m v → KnownValue m' v
+value_later (made_parts.One x) m m' r k = item_later x m m' r k
+value_later (made_parts.Many xs) m m' r k = items_later xs m m' r k
 
 -- ---- nodes, each of which names only what is there
 
@@ -192,16 +192,16 @@ pub record Good (m : Made) : Type 0 where
   pub names : AllName m m.nodes
   pub bodies : AllHold m m.bodies
 
-pub record GoodPart (m : Made) (r : Part) : Type 0 where
+pub record GoodPart (m : Made) (r : PartWithMade) : Type 0 where
   pub good : Good r.made
   pub value : KnownValue r.made r.value
   pub reaches : Reaches m r.made
 
 -- after others
-pub after_others : (m m' : Made) (r : Part) → Reaches m m' → GoodPart m' r → GoodPart m r
+pub after_others : (m m' : Made) (r : PartWithMade) → Reaches m m' → GoodPart m' r → GoodPart m r
 after_others m m' r p g = record { good = g.good; value = g.value; reaches = further m m' r.made p g.reaches }
 
-pub unchanged : (m : Made) (v : Value) → Good m → KnownValue m v → GoodPart m (part v m)
+pub unchanged : (m : Made) (v : MadeParts) → Good m → KnownValue m v → GoodPart m (part v m)
 unchanged m v g k = record { good = g; value = k; reaches = stays m }
 
 pub add_node_good : (place : Place) (n : Node) (m : Made) → Good m → Below (length m.nodes) (children_of n) → Names m n → Good (add_node place n m)
@@ -229,6 +229,6 @@ with_node_good place n m g b h = record {
   reaches = node_reaches place n m;
 }
 
-pub with_one_good : (o : Option NodeId) (m : Made) (f : NodeId → Part) → Good m → IsThere m o → ((n : NodeId) → n.0 < length m.nodes → GoodPart m (f n)) → GoodPart m (with_one o m f)
-with_one_good None m f g h all = unchanged m (value.One item.Nothing) g tt
+pub with_one_good : (o : Option NodeId) (m : Made) (f : NodeId → PartWithMade) → Good m → IsThere m o → ((n : NodeId) → n.0 < length m.nodes → GoodPart m (f n)) → GoodPart m (with_one o m f)
+with_one_good None m f g h all = unchanged m (made_parts.One made_part.Nothing) g tt
 with_one_good (Some n) m f g h all = all n h

@@ -7,12 +7,12 @@ use Rattle.property_keys.specs.Texts.{interned}
 use Rattle.es_tree.specs.declared.body.DeclaredFunction.{DeclaredFunction}
 use Rattle.es_tree.specs.declared.names.Named.{Named}
 use Rattle.es_tree.specs.declared.numbers.FunctionNo.{FunctionNo}
-use Rattle.script_checker.specs.declared.values.Item.{Item}
+use Rattle.script_checker.specs.declared.made_parts.MadePart.{MadePart}
 use Rattle.script_checker.specs.Values.{function_of, functions_in, is_named, with_function}
 
 -- the members behind are done, and their names are those in the set
-pub record GoesBack (all rest : List Item) (seen : List (List ℕ)) (later : List DeclaredFunction) : Type 0 where
-  pub done : List Item
+pub record GoesBack (all rest : List MadePart) (seen : List (List ℕ)) (later : List DeclaredFunction) : Type 0 where
+  pub done : List MadePart
   pub whole : all ≡ rest ++ done
   pub functions : later ≡ functions_in done
   pub names : (u : List ℕ) → list_any (bytes_eq u) seen ≡ list_any (is_named u) (functions_in done)
@@ -41,7 +41,7 @@ found names n u = elim (cases_Bool (list_any (bytes_eq n) names)) [
 ]
 
 -- another member in front of those that are done
-pub goes_back : (all rest : List Item) (x : Item) (f : FunctionNo) (own : Named) (seen : List (List ℕ)) (later : List DeclaredFunction) (last : Bool)
+pub goes_back : (all rest : List MadePart) (x : MadePart) (f : FunctionNo) (own : Named) (seen : List (List ℕ)) (later : List DeclaredFunction) (last : Bool)
     → GoesBack all (rest ++ x ∷ []) seen later → function_of x ≡ Some (f, own) → last ≡ not (list_any (bytes_eq own.name) seen)
     → GoesBack all rest (interned seen own.name) (record { function = f; named = own; is_last = last } ∷ later)
 goes_back all rest x f own seen later last g is e = record {
@@ -51,7 +51,7 @@ goes_back all rest x f own seen later last g is e = record {
   names = λ u. found seen own.name u ∙ ap (λ b. bytes_eq u own.name || b) (g.names u) ∙ ap (λ o. list_any (is_named u) (with_function o (functions_in g.done))) (sym is);
 }
 
-pub goes_past : (all rest : List Item) (x : Item) (seen : List (List ℕ)) (later : List DeclaredFunction)
+pub goes_past : (all rest : List MadePart) (x : MadePart) (seen : List (List ℕ)) (later : List DeclaredFunction)
     → GoesBack all (rest ++ x ∷ []) seen later → function_of x ≡ None → GoesBack all rest seen later
 goes_past all rest x seen later g is = record {
   done = x ∷ g.done;

@@ -9,13 +9,13 @@ use Rattle.script_grammar.specs.declared.labels.Triple.{Triple}
 use Rattle.script_grammar.specs.declared.labels.Triple.TheVariants as triple
 use Rattle.script_grammar.specs.declared.labels.Quad.{Quad}
 use Rattle.script_grammar.specs.declared.labels.Quad.TheVariants as quad
-use Rattle.script_grammar.specs.Tree.{Tree, first_token}
-use Rattle.script_grammar.specs.Tree.{Tree as t}
+use Rattle.script_grammar.specs.Tree.{ParseTree, first_token}
+use Rattle.script_grammar.specs.Tree.{ParseTree as parse_tree}
 use Rattle.script_checker.specs.Firsts.{wrap_first, pair_first, triple_first, for_first}
 use Rattle.script_checker.specs.Made.{Around}
 use Rattle.script_checker.specs.Machine.{Step, State, Visit, after, plan, run}
 
-first_wrap : (f : Wrap) (x : Tree) → first_token (t.Wrap f x) ≡ wrap_first f (first_token x)
+first_wrap : (f : Wrap) (x : ParseTree) → first_token (parse_tree.Wrap f x) ≡ wrap_first f (first_token x)
 first_wrap (wrap.Parenthesis i) x = refl
 first_wrap (wrap.Unary op i) x = refl
 first_wrap (wrap.Update up true i) x = refl
@@ -33,7 +33,7 @@ first_wrap (wrap.Throw i) x = refl
 first_wrap wrap.Catch x = refl
 first_wrap (wrap.CatchName i) x = refl
 
-first_pair : (f : Pair) (x y : Tree) → first_token (t.Pair f x y) ≡ pair_first f (first_token x)
+first_pair : (f : Pair) (x y : ParseTree) → first_token (parse_tree.Pair f x y) ≡ pair_first f (first_token x)
 first_pair pair.And x y = refl
 first_pair pair.Comma x y = refl
 first_pair (pair.Assign op) x y = refl
@@ -51,21 +51,21 @@ first_pair (pair.Setter i parameter) x y = refl
 first_pair (pair.If i) x y = refl
 first_pair (pair.While i) x y = refl
 
-first_triple : (f : Triple) (x y z : Tree) → first_token (t.Triple f x y z) ≡ triple_first f (first_token x)
+first_triple : (f : Triple) (x y z : ParseTree) → first_token (parse_tree.Triple f x y z) ≡ triple_first f (first_token x)
 first_triple triple.Conditional x y z = refl
 first_triple (triple.IfElse i) x y z = refl
 first_triple triple.Method x y z = refl
 first_triple (triple.Try i) x y z = refl
 
-first_quad : (f : Quad) (x y z w : Tree) → first_token (t.Quad f x y z w) ≡ for_first f
+first_quad : (f : Quad) (x y z w : ParseTree) → first_token (parse_tree.Quad f x y z w) ≡ for_first f
 first_quad (quad.For i) x y z w = refl
 
-pub planned : (leaves : List Leaf) (a : Around) (x : Tree) (s : State) → run leaves (plan leaves a x) s ≡ after leaves (Visit a x) s
-planned leaves a (t.Atom f) s = refl
-planned leaves a (t.Wrap f x) s = rw (first_wrap f x) refl
-planned leaves a (t.Pair f x y) s = rw (first_pair f x y) refl
-planned leaves a (t.Triple f x y z) s = rw (first_triple f x y z) refl
-planned leaves a (t.Quad f x y z w) s = rw (first_quad f x y z w) refl
+pub planned : (leaves : List Leaf) (a : Around) (x : ParseTree) (s : State) → run leaves (plan leaves a x) s ≡ after leaves (Visit a x) s
+planned leaves a (parse_tree.Atom f) s = refl
+planned leaves a (parse_tree.Wrap f x) s = rw (first_wrap f x) refl
+planned leaves a (parse_tree.Pair f x y) s = rw (first_pair f x y) refl
+planned leaves a (parse_tree.Triple f x y z) s = rw (first_triple f x y z) refl
+planned leaves a (parse_tree.Quad f x y z w) s = rw (first_quad f x y z w) refl
 
 pub run_more : (leaves : List Leaf) (ks ms : List Step) (s : State) → run leaves (ks ++ ms) s ≡ run leaves ms (run leaves ks s)
 run_more leaves [] ms s = refl

@@ -1,14 +1,14 @@
 -- A task is done: the machine ends as before.
 use Rattle.std.proofs.Common.{◌≡◌, ◌<◌, ◌∙◌, ◌++◌, ap, refl, ℕ, ◌+◌, List, [], ◌∷◌, arith}
 use Rattle.script_grammar.specs.declared.leaf.Leaf.{Leaf}
-use Rattle.script_grammar.specs.declared.node.Node.{Node}
+use Rattle.script_grammar.specs.declared.node.ParseNode.{ParseNode}
 use Rattle.script_grammar.specs.declared.labels.Wrap.{Wrap}
 use Rattle.script_grammar.specs.declared.labels.Pair.{Pair}
 use Rattle.script_grammar.specs.declared.labels.Triple.{Triple}
 use Rattle.script_grammar.specs.declared.labels.Quad.{Quad}
 use Rattle.script_grammar.specs.Scripts.{Parts}
-use Rattle.script_grammar.specs.Tree.{Tree}
-use Rattle.script_grammar.specs.Tree.{Tree as t}
+use Rattle.script_grammar.specs.Tree.{ParseTree}
+use Rattle.script_grammar.specs.Tree.{ParseTree as parse_tree}
 use Rattle.script_rules.specs.declared.scope.Scope.{Scope}
 use Rattle.script_rules.specs.Arena.{tree_at}
 use Rattle.script_checker.specs.declared.machine.Machine.{Machine}
@@ -24,27 +24,27 @@ use Rattle.script_checker.proofs.Plans.{planned, run_more}
 
 -- ---- scopes that are entered later change no task
 
-task_later : (ns : List Node) (old new : List (List Scope)) (k : Task) → Grows old new → IsTask ns old k → IsTask ns new k
+task_later : (ns : List ParseNode) (old new : List (List Scope)) (k : Task) → Grows old new → IsTask ns old k → IsTask ns new k
 task_later ns old new (task.Visit n a) g h = (h.0, known_later old new a g h.1)
 task_later ns old new (task.Finish n a inner) g h = (h.0, known_later old new a g h.1, known_later old new inner g h.2)
 
-pub tasks_later : (ns : List Node) (old new : List (List Scope)) (ks : List Task) → Grows old new → AreTasks ns old ks → AreTasks ns new ks
+pub tasks_later : (ns : List ParseNode) (old new : List (List Scope)) (ks : List Task) → Grows old new → AreTasks ns old ks → AreTasks ns new ks
 tasks_later ns old new [] g h = tt
 tasks_later ns old new (k ∷ ks) g h = (task_later ns old new k g h.0, tasks_later ns old new ks g h.1)
 
-step_later : (ns : List Node) (old new : List (List Scope)) (k : Task) → Grows old new → IsTask ns old k → step_of ns new k ≡ step_of ns old k
+step_later : (ns : List ParseNode) (old new : List (List Scope)) (k : Task) → Grows old new → IsTask ns old k → step_of ns new k ≡ step_of ns old k
 step_later ns old new (task.Visit n a) g h = ap (λ (b : Around). Visit b (tree_at ns n)) (around_later old new a g h.1)
 step_later ns old new (task.Finish n a inner) g h = rw (around_later old new a g h.1, around_later old new inner g h.2) refl
 
-steps_later : (ns : List Node) (old new : List (List Scope)) (ks : List Task) → Grows old new → AreTasks ns old ks → steps_of ns new ks ≡ steps_of ns old ks
+steps_later : (ns : List ParseNode) (old new : List (List Scope)) (ks : List Task) → Grows old new → AreTasks ns old ks → steps_of ns new ks ≡ steps_of ns old ks
 steps_later ns old new [] g h = refl
 steps_later ns old new (k ∷ ks) g h = rw (step_later ns old new k g h.0, steps_later ns old new ks g h.1) refl
 
-steps_append : (ns : List Node) (chains : List (List Scope)) (ks ms : List Task) → steps_of ns chains (ks ++ ms) ≡ steps_of ns chains ks ++ steps_of ns chains ms
+steps_append : (ns : List ParseNode) (chains : List (List Scope)) (ks ms : List Task) → steps_of ns chains (ks ++ ms) ≡ steps_of ns chains ks ++ steps_of ns chains ms
 steps_append ns chains [] ms = refl
 steps_append ns chains (k ∷ ks) ms = ap (λ s. step_of ns chains k ∷ s) (steps_append ns chains ks ms)
 
-are_append : (ns : List Node) (chains : List (List Scope)) (ks ms : List Task) → AreTasks ns chains ks → AreTasks ns chains ms → AreTasks ns chains (ks ++ ms)
+are_append : (ns : List ParseNode) (chains : List (List Scope)) (ks ms : List Task) → AreTasks ns chains ks → AreTasks ns chains ms → AreTasks ns chains (ks ++ ms)
 are_append ns chains [] ms h i = i
 are_append ns chains (k ∷ ks) ms h i = (h.0, are_append ns chains ks ms h.1 i)
 
@@ -87,31 +87,31 @@ visited s old new n a ts h p =
 
 -- ---- the plan of each kind of label
 
-pub wrap_steps : (leaves : List Leaf) (a b inner : Around) (f : Wrap) (x y : Tree) → y ≡ t.Wrap f x → b ≡ a → inner ≡ in_wrap leaves a f x → Visit inner x ∷ Finish b inner y ∷ [] ≡ plan leaves a y
+pub wrap_steps : (leaves : List Leaf) (a b inner : Around) (f : Wrap) (x y : ParseTree) → y ≡ parse_tree.Wrap f x → b ≡ a → inner ≡ in_wrap leaves a f x → Visit inner x ∷ Finish b inner y ∷ [] ≡ plan leaves a y
 wrap_steps leaves a b inner f x y e p q = rw (e, p, q) refl
 
-pub wrap_less : (leaves : List Leaf) (a : Around) (f : Wrap) (x y : Tree) → y ≡ t.Wrap f x → work_left (plan leaves a y) < work y
+pub wrap_less : (leaves : List Leaf) (a : Around) (f : Wrap) (x y : ParseTree) → y ≡ parse_tree.Wrap f x → work_left (plan leaves a y) < work y
 wrap_less leaves a f x y e = rw e (omega arith)
 
-pub pair_steps : (leaves : List Leaf) (a b inner first : Around) (f : Pair) (x y z : Tree) → z ≡ t.Pair f x y → b ≡ a → inner ≡ in_pair leaves a f x y → first ≡ before_pair b inner f
+pub pair_steps : (leaves : List Leaf) (a b inner first : Around) (f : Pair) (x y z : ParseTree) → z ≡ parse_tree.Pair f x y → b ≡ a → inner ≡ in_pair leaves a f x y → first ≡ before_pair b inner f
     → Visit first x ∷ Visit inner y ∷ Finish b inner z ∷ [] ≡ plan leaves a z
 pair_steps leaves a b inner first f x y z e p q r = rw (e, r, p, q) refl
 
-pub pair_less : (leaves : List Leaf) (a : Around) (f : Pair) (x y z : Tree) → z ≡ t.Pair f x y → work_left (plan leaves a z) < work z
+pub pair_less : (leaves : List Leaf) (a : Around) (f : Pair) (x y z : ParseTree) → z ≡ parse_tree.Pair f x y → work_left (plan leaves a z) < work z
 pair_less leaves a f x y z e = rw e (omega arith)
 
-pub triple_steps : (leaves : List Leaf) (a b inner first last : Around) (f : Triple) (x y z w : Tree) → w ≡ t.Triple f x y z → b ≡ a → inner ≡ in_triple leaves a f y z → first ≡ before_triple b f
+pub triple_steps : (leaves : List Leaf) (a b inner first last : Around) (f : Triple) (x y z w : ParseTree) → w ≡ parse_tree.Triple f x y z → b ≡ a → inner ≡ in_triple leaves a f y z → first ≡ before_triple b f
     → last ≡ after_triple inner f → Visit first x ∷ Visit inner y ∷ Visit last z ∷ Finish b inner w ∷ [] ≡ plan leaves a w
 triple_steps leaves a b inner first last f x y z w e p q r u = rw (e, r, u, p, q) refl
 
-pub triple_less : (leaves : List Leaf) (a : Around) (f : Triple) (x y z w : Tree) → w ≡ t.Triple f x y z → work_left (plan leaves a w) < work w
+pub triple_less : (leaves : List Leaf) (a : Around) (f : Triple) (x y z w : ParseTree) → w ≡ parse_tree.Triple f x y z → work_left (plan leaves a w) < work w
 triple_less leaves a f x y z w e = rw e (omega arith)
 
-pub for_steps : (leaves : List Leaf) (a b inner : Around) (f : Quad) (x y z w v : Tree) → v ≡ t.Quad f x y z w → b ≡ a → inner ≡ in_for leaves a x
+pub for_steps : (leaves : List Leaf) (a b inner : Around) (f : Quad) (x y z w v : ParseTree) → v ≡ parse_tree.Quad f x y z w → b ≡ a → inner ≡ in_for leaves a x
     → Visit inner x ∷ Visit inner y ∷ Visit inner z ∷ Visit inner w ∷ Finish b inner v ∷ [] ≡ plan leaves a v
 for_steps leaves a b inner f x y z w v e p q = rw (e, p, q) refl
 
-pub for_less : (leaves : List Leaf) (a : Around) (f : Quad) (x y z w v : Tree) → v ≡ t.Quad f x y z w → work_left (plan leaves a v) < work v
+pub for_less : (leaves : List Leaf) (a : Around) (f : Quad) (x y z w v : ParseTree) → v ≡ parse_tree.Quad f x y z w → work_left (plan leaves a v) < work v
 for_less leaves a f x y z w v e = rw e (omega arith)
 
 -- ---- a task that only makes something

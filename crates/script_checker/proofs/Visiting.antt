@@ -7,17 +7,17 @@ use Rattle.script_grammar.specs.declared.labels.Triple.{Triple}
 use Rattle.script_grammar.specs.declared.labels.Quad.{Quad}
 use Rattle.script_grammar.specs.Scripts.{Parts}
 use Rattle.script_grammar.specs.Tree.{first_token}
-use Rattle.script_grammar.specs.Tree.{Tree as t}
+use Rattle.script_grammar.specs.Tree.{ParseTree as parse_tree}
 use Rattle.script_rules.specs.Arena.{IsPair, IsPart, IsQuad, IsTriple, IsWrap, tree_at}
 use Rattle.script_checker.specs.declared.machine.Machine.{Machine}
-use Rattle.script_checker.specs.declared.tasks.Entry.{Entry}
+use Rattle.script_checker.specs.declared.tasks.StackedPart.{StackedPart}
 use Rattle.script_checker.specs.declared.tasks.Setting.{Setting}
 use Rattle.script_checker.specs.declared.tasks.Task.TheVariants as task
-use Rattle.script_checker.specs.declared.values.Value.{Value}
+use Rattle.script_checker.specs.declared.made_parts.MadeParts.{MadeParts}
 use Rattle.script_checker.specs.Driving.{AreTasks, Does}
 use Rattle.script_checker.specs.Firsts.{for_first, pair_first, triple_first, wrap_first}
 use Rattle.script_checker.specs.Machine.{around_of, below, entry, on_top, state, top}
-use Rattle.script_checker.specs.Made.{Made, Part, after_triple, atom_made, before_pair, before_triple, for_made, in_for, in_pair, in_triple, in_wrap, pair_made, part, place_of, triple_made, wrap_made}
+use Rattle.script_checker.specs.Made.{Made, PartWithMade, after_triple, atom_made, before_pair, before_triple, for_made, in_for, in_pair, in_triple, in_wrap, pair_made, part, place_of, triple_made, wrap_made}
 use Rattle.script_checker.specs.Settings.{Opened}
 use Rattle.script_checker.specs.Spots.{IsKnown}
 use Rattle.script_checker.proofs.Entering.{around_later, known_later}
@@ -90,11 +90,11 @@ for_visited s old new n x y z w a inner f h k p q o ts vs ms =
 
 -- ---- what is made, on top of what was there
 
-on_top_is : (es es' : List Entry) (first first' : Option ℕ) (v : Value) (m : Made) (r : Part) → es' ≡ entry v first' ∷ es → first' ≡ first → part v m ≡ r → state es' m ≡ on_top es first r
+on_top_is : (es es' : List StackedPart) (first first' : Option ℕ) (v : MadeParts) (m : Made) (r : PartWithMade) → es' ≡ entry v first' ∷ es → first' ≡ first → part v m ≡ r → state es' m ≡ on_top es first r
 on_top_is es es' first first' v m r e f g = rw (e, f, ← g) refl
 
-pub atom_done : (s : Parts) (old new : Machine) (n : ℕ) (a : Setting) (f : Atom) (first : Option ℕ) (v : Value) → AreTasks s.nodes old.scopes old.tasks → tree_at s.nodes n ≡ t.Atom f
-    → first ≡ first_token (t.Atom f) → part v new.maker ≡ atom_made s.leaves (around_of old.scopes a) (place_of s.leaves first) f old.maker → new.values ≡ entry v first ∷ old.values
+pub atom_done : (s : Parts) (old new : Machine) (n : ℕ) (a : Setting) (f : Atom) (first : Option ℕ) (v : MadeParts) → AreTasks s.nodes old.scopes old.tasks → tree_at s.nodes n ≡ parse_tree.Atom f
+    → first ≡ first_token (parse_tree.Atom f) → part v new.maker ≡ atom_made s.leaves (around_of old.scopes a) (place_of s.leaves first) f old.maker → new.values ≡ entry v first ∷ old.values
     → new.tasks ≡ old.tasks → new.scopes ≡ old.scopes → Does s old new (task.Visit n a)
 atom_done s old new n a f first v h is e p vs ts cs =
     made_done s old new (task.Visit n a) h (rw is (omega arith)) (record {
@@ -103,7 +103,7 @@ atom_done s old new n a f first v h is e p vs ts cs =
       state = rw (is, ← e) (on_top_is old.values new.values first first v new.maker _ vs refl p);
     })
 
-pub wrap_done : (s : Parts) (old new : Machine) (n x : ℕ) (a inner : Setting) (f : Wrap) (e : Entry) (first : Option ℕ) (v : Value) → AreTasks s.nodes old.scopes old.tasks → tree_at s.nodes n ≡ t.Wrap f (tree_at s.nodes x)
+pub wrap_done : (s : Parts) (old new : Machine) (n x : ℕ) (a inner : Setting) (f : Wrap) (e : StackedPart) (first : Option ℕ) (v : MadeParts) → AreTasks s.nodes old.scopes old.tasks → tree_at s.nodes n ≡ parse_tree.Wrap f (tree_at s.nodes x)
     → e ≡ top old.values → first ≡ wrap_first f e.first
     → part v new.maker ≡ wrap_made s.leaves (around_of old.scopes a) (around_of old.scopes inner) (place_of s.leaves first) f e.value old.maker → new.values ≡ entry v first ∷ below old.values
     → new.tasks ≡ old.tasks → new.scopes ≡ old.scopes → Does s old new (task.Finish n a inner)
@@ -114,8 +114,8 @@ wrap_done s old new n x a inner f e first v h is te fe p vs ts cs =
       state = rw (is, ← te, ← fe) (on_top_is (below old.values) new.values first first v new.maker _ vs refl p);
     })
 
-pub pair_done : (s : Parts) (old new : Machine) (n x y : ℕ) (a inner : Setting) (f : Pair) (d e : Entry) (first : Option ℕ) (v : Value) → AreTasks s.nodes old.scopes old.tasks
-    → tree_at s.nodes n ≡ t.Pair f (tree_at s.nodes x) (tree_at s.nodes y) → d ≡ top old.values → e ≡ top (below old.values) → first ≡ pair_first f e.first
+pub pair_done : (s : Parts) (old new : Machine) (n x y : ℕ) (a inner : Setting) (f : Pair) (d e : StackedPart) (first : Option ℕ) (v : MadeParts) → AreTasks s.nodes old.scopes old.tasks
+    → tree_at s.nodes n ≡ parse_tree.Pair f (tree_at s.nodes x) (tree_at s.nodes y) → d ≡ top old.values → e ≡ top (below old.values) → first ≡ pair_first f e.first
     → part v new.maker ≡ pair_made s.leaves (around_of old.scopes a) (around_of old.scopes inner) (place_of s.leaves first) f (tree_at s.nodes x) (tree_at s.nodes y) e.value d.value old.maker
     → new.values ≡ entry v first ∷ below (below old.values) → new.tasks ≡ old.tasks → new.scopes ≡ old.scopes → Does s old new (task.Finish n a inner)
 pair_done s old new n x y a inner f d e first v h is td te fe p vs ts cs =
@@ -125,8 +125,8 @@ pair_done s old new n x y a inner f d e first v h is td te fe p vs ts cs =
       state = rw (is, ← td, ← te, ← fe) (on_top_is (below (below old.values)) new.values first first v new.maker _ vs refl p);
     })
 
-pub triple_done : (s : Parts) (old new : Machine) (n x y z : ℕ) (a inner : Setting) (f : Triple) (b d e : Entry) (first : Option ℕ) (v : Value) → AreTasks s.nodes old.scopes old.tasks
-    → tree_at s.nodes n ≡ t.Triple f (tree_at s.nodes x) (tree_at s.nodes y) (tree_at s.nodes z) → b ≡ top old.values → d ≡ top (below old.values) → e ≡ top (below (below old.values)) → first ≡ triple_first f e.first
+pub triple_done : (s : Parts) (old new : Machine) (n x y z : ℕ) (a inner : Setting) (f : Triple) (b d e : StackedPart) (first : Option ℕ) (v : MadeParts) → AreTasks s.nodes old.scopes old.tasks
+    → tree_at s.nodes n ≡ parse_tree.Triple f (tree_at s.nodes x) (tree_at s.nodes y) (tree_at s.nodes z) → b ≡ top old.values → d ≡ top (below old.values) → e ≡ top (below (below old.values)) → first ≡ triple_first f e.first
     → part v new.maker ≡ triple_made s.leaves (around_of old.scopes inner) (place_of s.leaves first) f (tree_at s.nodes z) e.value d.value b.value old.maker
     → new.values ≡ entry v first ∷ below (below (below old.values)) → new.tasks ≡ old.tasks → new.scopes ≡ old.scopes → Does s old new (task.Finish n a inner)
 triple_done s old new n x y z a inner f b d e first v h is tb td te fe p vs ts cs =
@@ -136,8 +136,8 @@ triple_done s old new n x y z a inner f b d e first v h is tb td te fe p vs ts c
       state = rw (is, ← tb, ← td, ← te, ← fe) (on_top_is (below (below (below old.values))) new.values first first v new.maker _ vs refl p);
     })
 
-pub for_done : (s : Parts) (old new : Machine) (n x y z w : ℕ) (a inner : Setting) (f : Quad) (b c d e : Entry) (first : Option ℕ) (v : Value) → AreTasks s.nodes old.scopes old.tasks
-    → tree_at s.nodes n ≡ t.Quad f (tree_at s.nodes x) (tree_at s.nodes y) (tree_at s.nodes z) (tree_at s.nodes w)
+pub for_done : (s : Parts) (old new : Machine) (n x y z w : ℕ) (a inner : Setting) (f : Quad) (b c d e : StackedPart) (first : Option ℕ) (v : MadeParts) → AreTasks s.nodes old.scopes old.tasks
+    → tree_at s.nodes n ≡ parse_tree.Quad f (tree_at s.nodes x) (tree_at s.nodes y) (tree_at s.nodes z) (tree_at s.nodes w)
     → b ≡ top old.values → c ≡ top (below old.values) → d ≡ top (below (below old.values)) → e ≡ top (below (below (below old.values))) → first ≡ for_first f
     → part v new.maker ≡ for_made (around_of old.scopes inner) (place_of s.leaves first) e.value d.value c.value b.value old.maker
     → new.values ≡ entry v first ∷ below (below (below (below old.values))) → new.tasks ≡ old.tasks → new.scopes ≡ old.scopes → Does s old new (task.Finish n a inner)

@@ -1,10 +1,10 @@
 -- The tasks of the machine that makes the tree of a script.
 use Rattle.std.specs.Prelude.{◌≡◌, ◌<◌, ℕ, ◌+◌, Bool, List, [], ◌∷◌}
 use Rattle.es_tree.specs.Tree.{Tree as Checked}
-use Rattle.script_grammar.specs.declared.node.Node.{Node}
+use Rattle.script_grammar.specs.declared.node.ParseNode.{ParseNode}
 use Rattle.script_grammar.specs.Scripts.{Parts}
-use Rattle.script_grammar.specs.Tree.{Tree}
-use Rattle.script_grammar.specs.Tree.{Tree as t}
+use Rattle.script_grammar.specs.Tree.{ParseTree}
+use Rattle.script_grammar.specs.Tree.{ParseTree as parse_tree}
 use Rattle.script_rules.specs.declared.scope.Scope.{Scope}
 use Rattle.script_rules.specs.Arena.{IsPart}
 use Rattle.script_checker.specs.declared.machine.Machine.{Machine}
@@ -16,11 +16,11 @@ use Rattle.script_checker.specs.Values.{parts_of}
 use Rattle.script_checker.specs.Made.{script_body, script_tree}
 
 -- the node of a task stands for a tree, and its scopes are known
-abbrev pub IsTask : List Node → List (List Scope) → Task → Type 0
+abbrev pub IsTask : List ParseNode → List (List Scope) → Task → Type 0
 IsTask ns chains (task.Visit n a) = IsPart ns n × IsKnown chains a
 IsTask ns chains (task.Finish n a inner) = IsPart ns n × IsKnown chains a × IsKnown chains inner
 
-abbrev pub AreTasks : List Node → List (List Scope) → List Task → Type 0
+abbrev pub AreTasks : List ParseNode → List (List Scope) → List Task → Type 0
 AreTasks ns chains [] = Unit {0}
 AreTasks ns chains (k ∷ ks) = IsTask ns chains k × AreTasks ns chains ks
 
@@ -30,12 +30,12 @@ end_of s m = run s.leaves (steps_of s.nodes m.scopes m.tasks) (state m.values m.
 
 -- ---- the work that is left
 
-abbrev pub work : Tree → ℕ
-work (t.Atom f) = 1
-work (t.Wrap f x) = work x + 2
-work (t.Pair f x y) = work x + work y + 2
-work (t.Triple f x y z) = work x + work y + work z + 2
-work (t.Quad f x y z w) = work x + work y + work z + work w + 2
+abbrev pub work : ParseTree → ℕ
+work (parse_tree.Atom f) = 1
+work (parse_tree.Wrap f x) = work x + 2
+work (parse_tree.Pair f x y) = work x + work y + 2
+work (parse_tree.Triple f x y z) = work x + work y + work z + 2
+work (parse_tree.Quad f x y z w) = work x + work y + work z + work w + 2
 
 abbrev pub work_of : Step → ℕ
 work_of (Visit a x) = work x

@@ -3,8 +3,8 @@ use Rattle.std.specs.Prelude.{◌≡◌, ◌<◌, ◌^◌, true, false, length, 
 use Rattle.es_tree.specs.declared.numbers.SiteId.{SiteId}
 use Rattle.es_source.specs.declared.place.Place.{Place}
 use Rattle.script_rules.specs.declared.role.Role.{Role}
-use Rattle.script_checker.specs.declared.values.Value.{Value}
-use Rattle.script_checker.specs.Made.{Made, Part, part, add_site_where, is_read, is_written, site_where}
+use Rattle.script_checker.specs.declared.made_parts.MadeParts.{MadeParts}
+use Rattle.script_checker.specs.Made.{Made, PartWithMade, part, add_site_where, is_read, is_written, site_where}
 
 -- there are fewer than 2^32 of each
 pub record HasRoom (m : Made) : Type 0 where
@@ -19,7 +19,7 @@ Adds wanted answer new (Ok x) = (new ≡ wanted) × (x ≡ answer)
 Adds wanted answer new (Err e) = Unit {0}
 
 -- a part became that, with all that was made
-abbrev pub Makes : {E : Type 0} → Part → Made → Result Value E → Type 0
+abbrev pub Makes : {E : Type 0} → PartWithMade → Made → Result MadeParts E → Type 0
 Makes wanted new (Ok v) = part v new ≡ wanted
 Makes wanted new (Err e) = Unit {0}
 

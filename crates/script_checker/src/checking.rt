@@ -1,8 +1,8 @@
 //! The third pass: the static rules, and the tree of a script that keeps them.
 
 ghost use Rattle.std.specs.Prelude.{◌≡◌, IfOk};
-ghost use Rattle.script_grammar.specs.Scripts.{Stands};
-ghost use Rattle.script_grammar.specs.Tree.{Tree};
+ghost use Rattle.script_grammar.specs.Scripts.{HasTree};
+ghost use Rattle.script_grammar.specs.Tree.{ParseTree};
 ghost use Rattle.script_rules.specs.Arena.{IsPart, tree_at};
 ghost use Rattle.script_checker.specs.Contract.{Checks};
 ghost use Rattle.script_checker.specs.Made.{checked_tree};
@@ -43,7 +43,7 @@ fn checked_tree(alloc: Global, script: &Script) -> Result<Checked, NoMemory>
 /// The tree of a script: its items, its nodes with their places, its functions, literals and sites, and what its names are bound to. Where the script breaks
 /// static rules it is the first fault: the one with the least place and, at one place, the lowest code. It answers `NoMemory` where memory runs out.
 pub fn check(alloc: Global, script: Script) -> Result<Checked, ReadStop>
-    requires { (x : Tree) × Stands script.nodes script.root x }
+    requires { (x : ParseTree) × HasTree script.nodes script.root x }
     ensures { Checks script result }
 {
     match static_fault(alloc, &script)? {

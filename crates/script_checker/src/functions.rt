@@ -11,8 +11,8 @@ ghost use Rattle.script_checker.specs.Values.{function_of, functions_in};
 
 use crate::lists::nodes_in;
 use crate::own::own_facts;
-use crate::tokens::{copied, named};
-use crate::{Item, ItemList, Maker, Setting, Spot, Stack, TextSet, Value};
+use crate::tokens::named;
+use crate::{MadePart, MadePartList, MadeParts, Maker, Setting, Spot, Stack, TextSet};
 use es_source::Place;
 use es_tree::{
     Body, DeclaredFunction, FunctionFacts, FunctionNo, Items, Named, Node, NodeId, Primary,
@@ -32,17 +32,17 @@ pub struct Header {
 }
 
 /// A member that is a declared function.
-fn function_of(item: Item) -> Option<(FunctionNo, Named)>
+fn function_of(item: MadePart) -> Option<(FunctionNo, Named)>
     ensures { result ≡ function_of item }
 {
     match item {
-        Item::Function(function, named) => Some((function, named)),
+        MadePart::Function(function, named) => Some((function, named)),
         _ => None,
     }
 }
 
 /// The declared functions among the members from the last on, each with whether it is the last one of its name.
-fn functions_back(alloc: Global, items: ItemList) -> Result<Stack<DeclaredFunction>, NoMemory>
+fn functions_back(alloc: Global, items: MadePartList) -> Result<Stack<DeclaredFunction>, NoMemory>
     ensures { IfOk result (λ functions. functions ≡ functions_in items) }
 {
     let mut names = TextSet::new(alloc);
@@ -51,7 +51,7 @@ fn functions_back(alloc: Global, items: ItemList) -> Result<Stack<DeclaredFuncti
     'back: while let Some(item) = rest.pop() {
         if let Some((function, named)) = function_of(item) {
             let is_last = !names.contains(&named.name);
-            names.add(copied(alloc, &named.name)?)?;
+            names.add(named.name.copied(alloc)?)?;
             functions.push(DeclaredFunction {
                 function,
                 named,
@@ -63,7 +63,7 @@ fn functions_back(alloc: Global, items: ItemList) -> Result<Stack<DeclaredFuncti
 }
 
 /// The declared functions among the members, each with whether it is the last one of its name.
-pub fn functions_in(alloc: Global, items: ItemList) -> Result<Items<DeclaredFunction>, NoMemory>
+pub fn functions_in(alloc: Global, items: MadePartList) -> Result<Items<DeclaredFunction>, NoMemory>
     ensures { IfOk result (λ functions. functions ≡ functions_in items) }
 {
     let mut back = functions_back(alloc, items)?;
@@ -99,7 +99,7 @@ pub fn function_made(
     inner: Setting,
     header: Header,
     code: u32,
-    items: ItemList,
+    items: MadePartList,
 ) -> Result<FunctionNo, NoMemory>
     requires known { IsKnown scopes.now inner }
     requires code { IsPart script.now.nodes code }
@@ -108,8 +108,7 @@ pub fn function_made(
     let alloc = maker.alloc();
     let own = own_facts(alloc, script, code)?;
     let facts = FunctionFacts {
-        line: header.place.line,
-        column: header.place.column,
+        place: header.place,
         parameters: number(header.parameters)?,
         this_names: own.this_names,
         constructor: header.constructor,
@@ -133,8 +132,8 @@ pub fn expression_made(
     spot: Spot,
     name: Option<u32>,
     parameters: usize,
-    items: ItemList,
-) -> Result<Value, NoMemory>
+    items: MadePartList,
+) -> Result<MadeParts, NoMemory>
     requires { IsSpot script.now.nodes scopes.now spot }
     ensures { Makes (expression_made script.now.leaves (around_of scopes.now spot.inner) spot.place name parameters (tree_at script.now.nodes spot.last) items maker.old) maker.new result }
 {
@@ -156,8 +155,8 @@ pub fn declaration_made(
     spot: Spot,
     name: u32,
     parameters: usize,
-    items: ItemList,
-) -> Result<Value, NoMemory>
+    items: MadePartList,
+) -> Result<MadeParts, NoMemory>
     requires { IsSpot script.now.nodes scopes.now spot }
     ensures { Makes (declaration_made script.now.leaves (around_of scopes.now spot.around) (around_of scopes.now spot.inner) spot.place name parameters (tree_at script.now.nodes spot.last) items maker.old) maker.new result }
 {
@@ -169,7 +168,7 @@ pub fn declaration_made(
     };
     let own = named(maker.alloc(), script, scopes, spot.around.scope, name)?;
     let function = function_made(maker, script, scopes, spot.inner, header, spot.last, items)?;
-    Ok(Value::One(Item::Function(function, own)))
+    Ok(MadeParts::One(MadePart::Function(function, own)))
 }
 
 /// The function of a method or of an accessor, and the node at which it is made.
@@ -179,7 +178,7 @@ pub fn method_node(
     scopes: &Scopes,
     spot: Spot,
     parameters: usize,
-    items: ItemList,
+    items: MadePartList,
 ) -> Result<NodeId, NoMemory>
     requires { IsSpot script.now.nodes scopes.now spot }
     ensures { Adds (method_added script.now.leaves (around_of scopes.now spot.inner) spot.place parameters (tree_at script.now.nodes spot.last) items maker.old) (next_node (method_function script.now.leaves (around_of scopes.now spot.inner) spot.place parameters (tree_at script.now.nodes spot.last) items maker.old)) maker.new result }

@@ -4,18 +4,18 @@ ghost use Rattle.std.specs.Prelude.{◌≡◌, IfOk};
 ghost use Rattle.script_checker.specs.Values.{binds_in, elements_in, nodes_in, properties_in};
 
 use crate::parts::optional_node;
-use crate::{Item, ItemList};
+use crate::{MadePart, MadePartList};
 use es_tree::{Declared, Items, NodeId, Property};
 use property_keys::NoMemory;
 use std::alloc::Global;
 
 /// The nodes among the members.
-pub fn nodes_in(alloc: Global, items: &[Item]) -> Result<Items<NodeId>, NoMemory>
+pub fn nodes_in(alloc: Global, items: &[MadePart]) -> Result<Items<NodeId>, NoMemory>
     ensures { IfOk result (λ nodes. nodes ≡ nodes_in items.now) }
 {
     let mut nodes = Items::new(alloc);
     for item in items {
-        if let Item::Node(n) = item {
+        if let MadePart::Node(n) = item {
             nodes.push(*n)?;
         }
     }
@@ -23,7 +23,7 @@ pub fn nodes_in(alloc: Global, items: &[Item]) -> Result<Items<NodeId>, NoMemory
 }
 
 /// The elements of an array literal, with `None` for a hole.
-pub fn elements_in(alloc: Global, items: &[Item]) -> Result<Items<Option<NodeId>>, NoMemory>
+pub fn elements_in(alloc: Global, items: &[MadePart]) -> Result<Items<Option<NodeId>>, NoMemory>
     ensures { IfOk result (λ elements. elements ≡ elements_in items.now) }
 {
     let mut elements = Items::new(alloc);
@@ -34,12 +34,12 @@ pub fn elements_in(alloc: Global, items: &[Item]) -> Result<Items<Option<NodeId>
 }
 
 /// The lexical names among the members.
-pub fn binds_in(alloc: Global, items: ItemList) -> Result<Items<Declared>, NoMemory>
+pub fn binds_in(alloc: Global, items: MadePartList) -> Result<Items<Declared>, NoMemory>
     ensures { IfOk result (λ binds. binds ≡ binds_in items) }
 {
     let mut binds = Items::new(alloc);
     for item in items.into_vec() {
-        if let Item::Bind(bind) = item {
+        if let MadePart::Bind(bind) = item {
             binds.push(bind)?;
         }
     }
@@ -47,12 +47,12 @@ pub fn binds_in(alloc: Global, items: ItemList) -> Result<Items<Declared>, NoMem
 }
 
 /// The property definitions among the members.
-pub fn properties_in(alloc: Global, items: ItemList) -> Result<Items<Property>, NoMemory>
+pub fn properties_in(alloc: Global, items: MadePartList) -> Result<Items<Property>, NoMemory>
     ensures { IfOk result (λ properties. properties ≡ properties_in items) }
 {
     let mut properties = Items::new(alloc);
     for item in items.into_vec() {
-        if let Item::Property(property) = item {
+        if let MadePart::Property(property) = item {
             properties.push(property)?;
         }
     }

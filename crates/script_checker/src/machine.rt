@@ -2,7 +2,7 @@
 
 ghost use Rattle.std.specs.Prelude.{◌≡◌, [], IfOk, OnOk};
 ghost use Rattle.es_tree.specs.Tree.{IsTree};
-ghost use Rattle.script_grammar.specs.Tree.{Tree as t};
+ghost use Rattle.script_grammar.specs.Tree.{ParseTree as parse_tree};
 ghost use Rattle.script_rules.specs.Arena.{IsPair, IsPart, IsQuad, IsTriple, IsWrap, tree_at};
 ghost use Rattle.script_checker.specs.Driving.{AreTasks, Does, IsTask, end_of, tree_from};
 ghost use Rattle.script_checker.specs.Machine.{below, state, top};
@@ -21,10 +21,10 @@ use crate::settings::{
 use crate::tokens::place_of;
 use crate::triples::{ForValues, ThreeValues, for_first, for_made, triple_first, triple_made};
 use crate::wraps::{wrap_first, wrap_made};
-use crate::{Entry, Item, Maker, Setting, Spot, Stack, Task, Value};
+use crate::{MadePart, MadeParts, Maker, Setting, Spot, Stack, StackedPart, Task};
 use es_tree::{Body, Checked};
 use property_keys::NoMemory;
-use script_grammar::{Atom, Node, Pair, Quad, Script, Triple, Wrap};
+use script_grammar::{Atom, Pair, ParseNode, Quad, Script, Triple, Wrap};
 use script_rules::{Scopes, part};
 use std::alloc::Global;
 
@@ -32,7 +32,7 @@ use std::alloc::Global;
 #[derive(Drop)]
 pub struct Machine {
     pub tasks: Stack<Task>,
-    pub values: Stack<Entry>,
+    pub values: Stack<StackedPart>,
     pub maker: Maker,
     pub scopes: Scopes,
 }
@@ -47,14 +47,14 @@ struct ForParts {
 }
 
 /// Takes the value on top away. Where there is none it is a part that is left out.
-fn taken(values: &mut Stack<Entry>) -> Entry
+fn taken(values: &mut Stack<StackedPart>) -> StackedPart
     ensures top { result ≡ top values.old }
     ensures rest { values.new ≡ below values.old }
 {
     match values.pop() {
         Some(entry) => entry,
-        None => Entry {
-            value: Value::One(Item::Nothing),
+        None => StackedPart {
+            value: MadeParts::One(MadePart::Nothing),
             first: None,
         },
     }
@@ -86,13 +86,13 @@ impl Machine {
     ) -> Result<(), NoMemory>
         requires tasks { AreTasks script.now.nodes self.old.scopes self.old.tasks }
         requires known { IsKnown self.old.scopes around }
-        requires node { tree_at script.now.nodes n ≡ t.Atom label }
+        requires node { tree_at script.now.nodes n ≡ parse_tree.Atom label }
         ensures { OnOk result (Does script.now self.old self.new (Task.Visit n around)) }
     {
         let first = atom_first(label);
         let place = place_of(script, first);
         let value = atom_made(&mut self.maker, script, &self.scopes, around, place, label)?;
-        self.values.push(Entry { value, first })?;
+        self.values.push(StackedPart { value, first })?;
         Ok(())
     }
 
@@ -209,13 +209,13 @@ impl Machine {
         ensures { OnOk result (Does script.now self.old self.new (Task.Visit n around)) }
     {
         match part(script, n) {
-            Node::Atom(label) => self.visit_atom(script, n, around, label),
-            Node::Wrap(label, x) => self.visit_wrap(alloc, script, n, around, label, x),
-            Node::Pair(label, x, y) => self.visit_pair(alloc, script, n, around, label, x, y),
-            Node::Triple(label, x, y, z) => {
+            ParseNode::Atom(label) => self.visit_atom(script, n, around, label),
+            ParseNode::Wrap(label, x) => self.visit_wrap(alloc, script, n, around, label, x),
+            ParseNode::Pair(label, x, y) => self.visit_pair(alloc, script, n, around, label, x, y),
+            ParseNode::Triple(label, x, y, z) => {
                 self.visit_triple(alloc, script, n, around, label, x, y, z)
             }
-            Node::Quad(label, first, test, step, body) => {
+            ParseNode::Quad(label, first, test, step, body) => {
                 let parts = ForParts {
                     first,
                     test,
@@ -259,7 +259,7 @@ impl Machine {
             label,
             part.value,
         )?;
-        self.values.push(Entry { value, first })?;
+        self.values.push(StackedPart { value, first })?;
         Ok(())
     }
 
@@ -299,7 +299,7 @@ impl Machine {
             left,
             right,
         )?;
-        self.values.push(Entry { value, first })?;
+        self.values.push(StackedPart { value, first })?;
         Ok(())
     }
 
@@ -337,7 +337,7 @@ impl Machine {
             third: third.value,
         };
         let value = triple_made(&mut self.maker, script, &self.scopes, spot, label, values)?;
-        self.values.push(Entry { value, first })?;
+        self.values.push(StackedPart { value, first })?;
         Ok(())
     }
 
@@ -369,7 +369,7 @@ impl Machine {
             body: body.value,
         };
         let value = for_made(&mut self.maker, &self.scopes, inner, place, values)?;
-        self.values.push(Entry { value, first })?;
+        self.values.push(StackedPart { value, first })?;
         Ok(())
     }
 
@@ -386,13 +386,13 @@ impl Machine {
         ensures { OnOk result (Does script.now self.old self.new (Task.Finish n around inner)) }
     {
         match part(script, n) {
-            Node::Atom(_) => Ok(()),
-            Node::Wrap(label, x) => self.finish_wrap(script, n, around, inner, label, x),
-            Node::Pair(label, x, y) => self.finish_pair(script, n, around, inner, label, x, y),
-            Node::Triple(label, x, y, z) => {
+            ParseNode::Atom(_) => Ok(()),
+            ParseNode::Wrap(label, x) => self.finish_wrap(script, n, around, inner, label, x),
+            ParseNode::Pair(label, x, y) => self.finish_pair(script, n, around, inner, label, x, y),
+            ParseNode::Triple(label, x, y, z) => {
                 self.finish_triple(script, n, around, inner, label, x, y, z)
             }
-            Node::Quad(label, first, test, step, body) => {
+            ParseNode::Quad(label, first, test, step, body) => {
                 let parts = ForParts {
                     first,
                     test,

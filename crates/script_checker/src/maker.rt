@@ -1,9 +1,11 @@
+//! What is made of a tree.
+
 ghost use Rattle.std.specs.Prelude.{◌≡◌, ◌<◌, ◌+◌, ◌^◌, length, IfOk, OnOk};
 ghost use Rattle.es_tree.specs.Tree.{IsTree};
 ghost use Rattle.script_checker.specs.Made.{add_function, add_literal, add_node, next_node, add_site_where, is_read, is_written, made_of, next_function, nothing_made, script_tree, site_where, with_access, with_node, with_operator, with_primary, with_statement};
 ghost use Rattle.script_checker.specs.Making.{Adds, HasRoom, HasSites, Makes};
 
-use crate::{Item, Value};
+use crate::{MadePart, MadeParts};
 use es_source::Place;
 use es_tree::{
     Access, Body, Checked, FunctionFacts, FunctionNo, LiteralFacts, LiteralNo, Node, NodeId,
@@ -82,32 +84,32 @@ impl Maker {
     }
 
     /// A node with the place of its first token.
-    pub fn node(&mut self, place: Place, node: Node) -> Result<Value, NoMemory>
+    pub fn node(&mut self, place: Place, node: Node) -> Result<MadeParts, NoMemory>
         ensures { Makes (with_node place node self.old) self.new result }
     {
         let id = self.add_node(place, node)?;
-        Ok(Value::One(Item::Node(id)))
+        Ok(MadeParts::One(MadePart::Node(id)))
     }
 
-    pub fn statement(&mut self, place: Place, statement: Statement) -> Result<Value, NoMemory>
+    pub fn statement(&mut self, place: Place, statement: Statement) -> Result<MadeParts, NoMemory>
         ensures { Makes (with_statement place statement self.old) self.new result }
     {
         self.node(place, Node::Statement(statement))
     }
 
-    pub fn operator(&mut self, place: Place, operator: Operator) -> Result<Value, NoMemory>
+    pub fn operator(&mut self, place: Place, operator: Operator) -> Result<MadeParts, NoMemory>
         ensures { Makes (with_operator place operator self.old) self.new result }
     {
         self.node(place, Node::Operator(operator))
     }
 
-    pub fn access(&mut self, place: Place, access: Access) -> Result<Value, NoMemory>
+    pub fn access(&mut self, place: Place, access: Access) -> Result<MadeParts, NoMemory>
         ensures { Makes (with_access place access self.old) self.new result }
     {
         self.node(place, Node::Access(access))
     }
 
-    pub fn primary(&mut self, place: Place, primary: Primary) -> Result<Value, NoMemory>
+    pub fn primary(&mut self, place: Place, primary: Primary) -> Result<MadeParts, NoMemory>
         ensures { Makes (with_primary place primary self.old) self.new result }
     {
         self.node(place, Node::Primary(primary))
@@ -127,8 +129,7 @@ impl Maker {
         }
         let number = next_number(self.sites.len())?;
         let site = SiteFacts {
-            line: token.line,
-            column: token.column,
+            place: token,
             write,
         };
         if self.sites.push(site).is_err() {
@@ -156,8 +157,7 @@ impl Maker {
     {
         let number = next_number(self.literals.len())?;
         let literal = LiteralFacts {
-            line: place.line,
-            column: place.column,
+            place,
             definitions: next_number(definitions)?,
         };
         if self.literals.push(literal).is_err() {

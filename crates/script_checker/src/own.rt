@@ -11,7 +11,7 @@ use crate::tokens::{is_spelled, text_units};
 use crate::{Stack, TextSet};
 use es_tree::AssignOperator;
 use property_keys::{NoMemory, Units};
-use script_grammar::{Atom, LeafKind, Node, Pair, Script, Triple, Wrap};
+use script_grammar::{Atom, LeafKind, Pair, ParseNode, Script, Triple, Wrap};
 use script_rules::{leaf_at, members, own_units_at, part};
 use std::alloc::Global;
 
@@ -29,8 +29,8 @@ fn uses_here(script: &Script, n: u32, arguments: &Units) -> bool
     ensures { result ≡ uses_here script.now.leaves (tree_at script.now.nodes n) }
 {
     match part(script, n) {
-        Node::Atom(Atom::Name(token)) => is_spelled(script, token, arguments),
-        Node::Atom(Atom::Shorthand(token)) => is_spelled(script, token, arguments),
+        ParseNode::Atom(Atom::Name(token)) => is_spelled(script, token, arguments),
+        ParseNode::Atom(Atom::Shorthand(token)) => is_spelled(script, token, arguments),
         _ => false,
     }
 }
@@ -41,7 +41,7 @@ fn in_parentheses(script: &Script, n: u32) -> Option<u32>
     ensures { InParentheses script.now.nodes n result }
 {
     match part(script, n) {
-        Node::Wrap(Wrap::Parenthesis(_), inner) => Some(inner),
+        ParseNode::Wrap(Wrap::Parenthesis(_), inner) => Some(inner),
         _ => None,
     }
 }
@@ -51,7 +51,7 @@ fn is_this_word(script: &Script, n: u32) -> bool
     requires { IsPart script.now.nodes n }
     ensures { result ≡ is_this_word (tree_at script.now.nodes n) }
 {
-    matches!(part(script, n), Node::Atom(Atom::This(_)))
+    matches!(part(script, n), ParseNode::Atom(Atom::This(_)))
 }
 
 /// Whether a part is `this`, in parentheses or not.
@@ -72,7 +72,7 @@ fn name_of_this(script: &Script, n: u32) -> Option<u32>
     ensures { units_listed script.now.leaves result ≡ name_of_this script.now.leaves (tree_at script.now.nodes n) }
 {
     match part(script, n) {
-        Node::Wrap(Wrap::Member { word, .. }, base) => {
+        ParseNode::Wrap(Wrap::Member { word, .. }, base) => {
             if is_this(script, base) {
                 Some(word)
             } else {
@@ -89,7 +89,9 @@ fn assigned_here(script: &Script, n: u32) -> Option<u32>
     ensures { units_listed script.now.leaves result ≡ assigned_here script.now.leaves (tree_at script.now.nodes n) }
 {
     match part(script, n) {
-        Node::Pair(Pair::Assign(AssignOperator::Plain), target, _) => name_of_this(script, target),
+        ParseNode::Pair(Pair::Assign(AssignOperator::Plain), target, _) => name_of_this(
+            script, target,
+        ),
         _ => None,
     }
 }
@@ -135,11 +137,11 @@ fn push_own(script: &Script, n: u32, rest: &mut Stack<u32>) -> Result<(), NoMemo
     ensures { OnOk result (AddsOwn script.now.nodes n rest.old rest.new) }
 {
     match part(script, n) {
-        Node::Atom(_) => Ok(()),
-        Node::Wrap(_, x) => rest.push(x),
-        Node::Pair(label, x, y) => push_pair(rest, label, x, y),
-        Node::Triple(label, x, y, z) => push_triple(rest, label, x, y, z),
-        Node::Quad(_, x, y, z, w) => {
+        ParseNode::Atom(_) => Ok(()),
+        ParseNode::Wrap(_, x) => rest.push(x),
+        ParseNode::Pair(label, x, y) => push_pair(rest, label, x, y),
+        ParseNode::Triple(label, x, y, z) => push_triple(rest, label, x, y, z),
+        ParseNode::Quad(_, x, y, z, w) => {
             push_two(rest, z, w)?;
             push_two(rest, x, y)
         }
@@ -193,8 +195,8 @@ fn directive(script: &Script, n: u32) -> Option<u32>
     ensures { result ≡ directive (tree_at script.now.nodes n) }
 {
     match part(script, n) {
-        Node::Wrap(Wrap::Evaluate, x) => match part(script, x) {
-            Node::Atom(Atom::Text(token)) => Some(token),
+        ParseNode::Wrap(Wrap::Evaluate, x) => match part(script, x) {
+            ParseNode::Atom(Atom::Text(token)) => Some(token),
             _ => None,
         },
         _ => None,

@@ -12,20 +12,20 @@ ghost use Rattle.script_checker.specs.Machine.{around_of};
 ghost use Rattle.script_checker.specs.Making.{Makes};
 ghost use Rattle.script_checker.specs.Spots.{IsSpot};
 ghost use Rattle.script_checker.specs.Values.{front_of, item_of, key_of, node_of, nodes_in, parts_of, target_of};
-ghost use Rattle.script_checker.specs.declared.values.Item.TheVariants as item;
-ghost use Rattle.script_checker.specs.declared.values.Value.TheVariants as value;
+ghost use Rattle.script_checker.specs.declared.made_parts.MadePart.TheVariants as made_part;
+ghost use Rattle.script_checker.specs.declared.made_parts.MadeParts.TheVariants as made_parts;
 
 use crate::functions::{declaration_made, expression_made, method_node};
 use crate::lists::nodes_in;
 use crate::parts::{front_of, item_of, key_of, node_of, parts_of, target_of};
 use crate::tokens::{is_spelled, place_of, text_units};
-use crate::{Item, Maker, Spot, Value};
+use crate::{MadePart, MadeParts, Maker, Spot};
 use es_source::Place;
 use es_tree::{
     Access, AssignOperator, BinaryOperator, Operator, Property, ShortOperator, Statement,
 };
 use property_keys::NoMemory;
-use script_grammar::{Atom, Node, Pair, Script};
+use script_grammar::{Atom, Pair, ParseNode, Script};
 use script_rules::{Role, Scopes, part};
 use std::alloc::Global;
 
@@ -54,12 +54,12 @@ pub fn pair_first(label: Pair, first: Option<u32>) -> Option<u32>
 }
 
 /// A list with one member more.
-fn listed(alloc: Global, front: Value, last: Value) -> Result<Value, NoMemory>
-    ensures { IfOk result (λ v. v ≡ value.Many (parts_of front ++ item_of last ∷ [])) }
+fn listed(alloc: Global, front: MadeParts, last: MadeParts) -> Result<MadeParts, NoMemory>
+    ensures { IfOk result (λ v. v ≡ made_parts.Many (parts_of front ++ item_of last ∷ [])) }
 {
     let mut parts = parts_of(alloc, front);
     parts.push(item_of(last))?;
-    Ok(Value::Many(parts))
+    Ok(MadeParts::Many(parts))
 }
 
 /// Whether a comma list is the front of another one.
@@ -74,16 +74,16 @@ fn comma(
     maker: &mut Maker,
     place: Place,
     role: Role,
-    front: Value,
-    last: Value,
-) -> Result<Value, NoMemory>
+    front: MadeParts,
+    last: MadeParts,
+) -> Result<MadeParts, NoMemory>
     ensures { Makes (comma_made place role (front_of front ++ item_of last ∷ []) maker.old) maker.new result }
 {
     let alloc = maker.alloc();
     let mut parts = front_of(alloc, front)?;
     parts.push(item_of(last))?;
     if is_front(role) {
-        return Ok(Value::Many(parts));
+        return Ok(MadeParts::Many(parts));
     }
     let nodes = nodes_in(alloc, parts.as_slice())?;
     maker.operator(place, Operator::Comma(nodes))
@@ -94,13 +94,13 @@ fn assign(
     maker: &mut Maker,
     place: Place,
     operator: AssignOperator,
-    target: Value,
-    part: Value,
-) -> Result<Value, NoMemory>
+    target: MadeParts,
+    part: MadeParts,
+) -> Result<MadeParts, NoMemory>
     ensures { Makes (with_one (node_of part) maker.old (λ n. with_operator place (operation.Assign operator (target_of (item_of target)) n) maker.old)) maker.new result }
 {
     let Some(value) = node_of(part) else {
-        return Ok(Value::One(Item::Nothing));
+        return Ok(MadeParts::One(MadePart::Nothing));
     };
     let target = target_of(maker.alloc(), item_of(target));
     maker.operator(
@@ -118,16 +118,16 @@ fn short(
     maker: &mut Maker,
     place: Place,
     operator: ShortOperator,
-    first: Value,
-    second: Value,
-) -> Result<Value, NoMemory>
+    first: MadeParts,
+    second: MadeParts,
+) -> Result<MadeParts, NoMemory>
     ensures { Makes (with_two (node_of first) (node_of second) maker.old (λ l n. with_operator place (operation.Short operator l n) maker.old)) maker.new result }
 {
     let Some(left) = node_of(first) else {
-        return Ok(Value::One(Item::Nothing));
+        return Ok(MadeParts::One(MadePart::Nothing));
     };
     let Some(right) = node_of(second) else {
-        return Ok(Value::One(Item::Nothing));
+        return Ok(MadeParts::One(MadePart::Nothing));
     };
     maker.operator(
         place,
@@ -144,16 +144,16 @@ fn binary(
     maker: &mut Maker,
     place: Place,
     operator: BinaryOperator,
-    first: Value,
-    second: Value,
-) -> Result<Value, NoMemory>
+    first: MadeParts,
+    second: MadeParts,
+) -> Result<MadeParts, NoMemory>
     ensures { Makes (with_two (node_of first) (node_of second) maker.old (λ l n. with_operator place (operation.Binary operator l n) maker.old)) maker.new result }
 {
     let Some(left) = node_of(first) else {
-        return Ok(Value::One(Item::Nothing));
+        return Ok(MadeParts::One(MadePart::Nothing));
     };
     let Some(right) = node_of(second) else {
-        return Ok(Value::One(Item::Nothing));
+        return Ok(MadeParts::One(MadePart::Nothing));
     };
     maker.operator(
         place,
@@ -171,16 +171,16 @@ fn index(
     script: &Script,
     spot: Spot,
     square: u32,
-    first: Value,
-    second: Value,
-) -> Result<Value, NoMemory>
+    first: MadeParts,
+    second: MadeParts,
+) -> Result<MadeParts, NoMemory>
     ensures { Makes (with_two (node_of first) (node_of second) maker.old (λ l n. accessed spot.place (place_of script.now.leaves (Some square)) spot.around.role (λ read write. access.Index l n read write) maker.old)) maker.new result }
 {
     let Some(base) = node_of(first) else {
-        return Ok(Value::One(Item::Nothing));
+        return Ok(MadeParts::One(MadePart::Nothing));
     };
     let Some(key) = node_of(second) else {
-        return Ok(Value::One(Item::Nothing));
+        return Ok(MadeParts::One(MadePart::Nothing));
     };
     let (read, write) = maker.sites(place_of(script, Some(square)), spot.around.role)?;
     maker.access(
@@ -195,11 +195,16 @@ fn index(
 }
 
 /// A call.
-fn call(maker: &mut Maker, place: Place, first: Value, second: Value) -> Result<Value, NoMemory>
+fn call(
+    maker: &mut Maker,
+    place: Place,
+    first: MadeParts,
+    second: MadeParts,
+) -> Result<MadeParts, NoMemory>
     ensures { Makes (with_one (node_of first) maker.old (λ n. with_access place (access.Call n (nodes_in (parts_of second))) maker.old)) maker.new result }
 {
     let Some(callee) = node_of(first) else {
-        return Ok(Value::One(Item::Nothing));
+        return Ok(MadeParts::One(MadePart::Nothing));
     };
     let alloc = maker.alloc();
     let parts = parts_of(alloc, second);
@@ -211,13 +216,13 @@ fn call(maker: &mut Maker, place: Place, first: Value, second: Value) -> Result<
 fn construct(
     maker: &mut Maker,
     place: Place,
-    first: Value,
-    second: Value,
-) -> Result<Value, NoMemory>
+    first: MadeParts,
+    second: MadeParts,
+) -> Result<MadeParts, NoMemory>
     ensures { Makes (with_one (node_of first) maker.old (λ n. with_access place (access.New n (nodes_in (parts_of second))) maker.old)) maker.new result }
 {
     let Some(callee) = node_of(first) else {
-        return Ok(Value::One(Item::Nothing));
+        return Ok(MadeParts::One(MadePart::Nothing));
     };
     let alloc = maker.alloc();
     let parts = parts_of(alloc, second);
@@ -226,14 +231,19 @@ fn construct(
 }
 
 /// An `if` without an `else`.
-fn if_then(maker: &mut Maker, place: Place, first: Value, second: Value) -> Result<Value, NoMemory>
+fn if_then(
+    maker: &mut Maker,
+    place: Place,
+    first: MadeParts,
+    second: MadeParts,
+) -> Result<MadeParts, NoMemory>
     ensures { Makes (with_two (node_of first) (node_of second) maker.old (λ l n. with_statement place (statement.If l n None) maker.old)) maker.new result }
 {
     let Some(test) = node_of(first) else {
-        return Ok(Value::One(Item::Nothing));
+        return Ok(MadeParts::One(MadePart::Nothing));
     };
     let Some(then) = node_of(second) else {
-        return Ok(Value::One(Item::Nothing));
+        return Ok(MadeParts::One(MadePart::Nothing));
     };
     maker.statement(
         place,
@@ -249,16 +259,16 @@ fn if_then(maker: &mut Maker, place: Place, first: Value, second: Value) -> Resu
 fn while_true(
     maker: &mut Maker,
     place: Place,
-    first: Value,
-    second: Value,
-) -> Result<Value, NoMemory>
+    first: MadeParts,
+    second: MadeParts,
+) -> Result<MadeParts, NoMemory>
     ensures { Makes (with_two (node_of first) (node_of second) maker.old (λ l n. with_statement place (statement.While l n) maker.old)) maker.new result }
 {
     let Some(test) = node_of(first) else {
-        return Ok(Value::One(Item::Nothing));
+        return Ok(MadeParts::One(MadePart::Nothing));
     };
     let Some(body) = node_of(second) else {
-        return Ok(Value::One(Item::Nothing));
+        return Ok(MadeParts::One(MadePart::Nothing));
     };
     maker.statement(place, Statement::While { test, body })
 }
@@ -269,7 +279,7 @@ fn sets_prototype(alloc: Global, script: &Script, name: u32) -> Result<bool, NoM
     ensures { IfOk result (λ b. b ≡ sets_prototype script.now.leaves (tree_at script.now.nodes name)) }
 {
     match part(script, name) {
-        Node::Atom(Atom::Key(token)) => {
+        ParseNode::Atom(Atom::Key(token)) => {
             let text = text_units(alloc, b"__proto__")?;
             Ok(is_spelled(script, token, &text))
         }
@@ -282,21 +292,21 @@ fn property(
     maker: &Maker,
     script: &Script,
     spot: Spot,
-    first: Value,
-    second: Value,
-) -> Result<Value, NoMemory>
+    first: MadeParts,
+    second: MadeParts,
+) -> Result<MadeParts, NoMemory>
     requires { IsPart script.now.nodes spot.first }
-    ensures { Makes (with_one (node_of second) maker.now (λ n. one (item.Property (property_of (sets_prototype script.now.leaves (tree_at script.now.nodes spot.first)) (item_of first) n)) maker.now)) maker.now result }
+    ensures { Makes (with_one (node_of second) maker.now (λ n. one (made_part.Property (property_of (sets_prototype script.now.leaves (tree_at script.now.nodes spot.first)) (item_of first) n)) maker.now)) maker.now result }
 {
     let alloc = maker.alloc();
     let Some(value) = node_of(second) else {
-        return Ok(Value::One(Item::Nothing));
+        return Ok(MadeParts::One(MadePart::Nothing));
     };
     if sets_prototype(alloc, script, spot.first)? {
-        Ok(Value::One(Item::Property(Property::Prototype(value))))
+        Ok(MadeParts::One(MadePart::Property(Property::Prototype(value))))
     } else {
         let key = key_of(alloc, item_of(first));
-        Ok(Value::One(Item::Property(Property::Value { key, value })))
+        Ok(MadeParts::One(MadePart::Property(Property::Value { key, value })))
     }
 }
 
@@ -306,16 +316,16 @@ fn getter(
     script: &Script,
     scopes: &Scopes,
     spot: Spot,
-    name: Value,
-    body: Value,
-) -> Result<Value, NoMemory>
+    name: MadeParts,
+    body: MadeParts,
+) -> Result<MadeParts, NoMemory>
     requires { IsSpot script.now.nodes scopes.now spot }
     ensures { Makes (method_made script.now.leaves (around_of scopes.now spot.inner) spot.place (λ n. property.Getter (key_of (item_of name)) n) 0 (tree_at script.now.nodes spot.last) (parts_of body) maker.old) maker.new result }
 {
     let alloc = maker.alloc();
     let method = method_node(maker, script, scopes, spot, 0, parts_of(alloc, body))?;
     let key = key_of(alloc, item_of(name));
-    Ok(Value::One(Item::Property(Property::Getter { key, method })))
+    Ok(MadeParts::One(MadePart::Property(Property::Getter { key, method })))
 }
 
 /// A setter, which has one parameter.
@@ -324,16 +334,16 @@ fn setter(
     script: &Script,
     scopes: &Scopes,
     spot: Spot,
-    name: Value,
-    body: Value,
-) -> Result<Value, NoMemory>
+    name: MadeParts,
+    body: MadeParts,
+) -> Result<MadeParts, NoMemory>
     requires { IsSpot script.now.nodes scopes.now spot }
     ensures { Makes (method_made script.now.leaves (around_of scopes.now spot.inner) spot.place (λ n. property.Setter (key_of (item_of name)) n) 1 (tree_at script.now.nodes spot.last) (parts_of body) maker.old) maker.new result }
 {
     let alloc = maker.alloc();
     let method = method_node(maker, script, scopes, spot, 1, parts_of(alloc, body))?;
     let key = key_of(alloc, item_of(name));
-    Ok(Value::One(Item::Property(Property::Setter { key, method })))
+    Ok(MadeParts::One(MadePart::Property(Property::Setter { key, method })))
 }
 
 /// A function expression, with its parameters and its body.
@@ -343,9 +353,9 @@ fn expression(
     scopes: &Scopes,
     spot: Spot,
     name: Option<u32>,
-    parameters: Value,
-    body: Value,
-) -> Result<Value, NoMemory>
+    parameters: MadeParts,
+    body: MadeParts,
+) -> Result<MadeParts, NoMemory>
     requires { IsSpot script.now.nodes scopes.now spot }
     ensures { Makes (expression_made script.now.leaves (around_of scopes.now spot.inner) spot.place name (length (parts_of parameters)) (tree_at script.now.nodes spot.last) (parts_of body) maker.old) maker.new result }
 {
@@ -369,9 +379,9 @@ fn declaration(
     scopes: &Scopes,
     spot: Spot,
     name: u32,
-    parameters: Value,
-    body: Value,
-) -> Result<Value, NoMemory>
+    parameters: MadeParts,
+    body: MadeParts,
+) -> Result<MadeParts, NoMemory>
     requires { IsSpot script.now.nodes scopes.now spot }
     ensures { Makes (declaration_made script.now.leaves (around_of scopes.now spot.around) (around_of scopes.now spot.inner) spot.place name (length (parts_of parameters)) (tree_at script.now.nodes spot.last) (parts_of body) maker.old) maker.new result }
 {
@@ -395,9 +405,9 @@ pub fn pair_made(
     scopes: &Scopes,
     spot: Spot,
     label: Pair,
-    first: Value,
-    second: Value,
-) -> Result<Value, NoMemory>
+    first: MadeParts,
+    second: MadeParts,
+) -> Result<MadeParts, NoMemory>
     requires { IsSpot script.now.nodes scopes.now spot }
     ensures { Makes (pair_made script.now.leaves (around_of scopes.now spot.around) (around_of scopes.now spot.inner) spot.place label (tree_at script.now.nodes spot.first) (tree_at script.now.nodes spot.last) first second maker.old) maker.new result }
 {

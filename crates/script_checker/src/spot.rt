@@ -1,3 +1,5 @@
+//! Where a part stands.
+
 use crate::Setting;
 use es_source::Place;
 

@@ -1,3 +1,5 @@
+//! A stack.
+
 ghost use Rattle.std.specs.Prelude.{◌≡◌, ◌∷◌, [], OnOk};
 ghost use Rattle.script_checker.specs.Stacks.{Pops};
 

@@ -1,4 +1,6 @@
-use crate::Value;
+//! What is to be done next.
+
+use crate::MadeParts;
 use script_rules::{Role, ScopeId};
 
 /// What stands around a part: its innermost scope, whether its code is strict, and what it is to the part around it.
@@ -19,7 +21,7 @@ pub enum Task {
 
 /// What a part became, and its first token.
 #[derive(Drop)]
-pub struct Entry {
-    pub value: Value,
+pub struct StackedPart {
+    pub value: MadeParts,
     pub first: Option<u32>,
 }

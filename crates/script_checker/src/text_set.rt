@@ -1,3 +1,5 @@
+//! A set of texts.
+
 ghost use Rattle.std.specs.Prelude.{◌≡◌, [], bytes_eq, length, OnOk};
 ghost use Rattle.std.specs.List.{list_any};
 ghost use Rattle.property_keys.specs.Texts.{interned};

@@ -21,10 +21,7 @@ pub fn place_of(script: &Script, token: Option<u32>) -> Place
         return Place { line: 0, column: 0 };
     };
     match leaf_at(script, number) {
-        Some(leaf) => Place {
-            line: leaf.line,
-            column: leaf.column,
-        },
+        Some(leaf) => leaf.place,
         None => Place { line: 0, column: 0 },
     }
 }
@@ -74,19 +71,6 @@ pub fn is_spelled(script: &Script, token: u32, text: &Units) -> bool
         Some(units) => *units == *text,
         None => false,
     }
-}
-
-/// A copy of a text.
-pub fn copied(alloc: Global, text: &Units) -> Result<Units, NoMemory>
-    ensures { IfOk result (λ u. u ≡ text.now) }
-{
-    let mut copy = Units::new(alloc);
-    for i in 0..text.len() {
-        if copy.push(text.unit(i)).is_err() {
-            return Err(NoMemory);
-        }
-    }
-    Ok(copy)
 }
 
 /// The property name that a token is. That of a number is its decimal.

@@ -14,7 +14,7 @@ ghost use Rattle.script_checker.specs.Values.{block_of, item_of, key_of, node_of
 
 use crate::functions::method_node;
 use crate::parts::{block_of, item_of, key_of, node_of, optional_block, optional_catch, parts_of};
-use crate::{Item, Maker, Setting, Spot, Value};
+use crate::{MadePart, MadeParts, Maker, Setting, Spot};
 use es_source::Place;
 use es_tree::{Operator, Property, Statement};
 use property_keys::NoMemory;
@@ -24,18 +24,18 @@ use script_rules::Scopes;
 /// What three parts became.
 #[derive(Drop)]
 pub struct ThreeValues {
-    pub first: Value,
-    pub second: Value,
-    pub third: Value,
+    pub first: MadeParts,
+    pub second: MadeParts,
+    pub third: MadeParts,
 }
 
 /// What the three parts of the head of a `for` and its statement became.
 #[derive(Drop)]
 pub struct ForValues {
-    pub first: Value,
-    pub test: Value,
-    pub step: Value,
-    pub body: Value,
+    pub first: MadeParts,
+    pub test: MadeParts,
+    pub step: MadeParts,
+    pub body: MadeParts,
 }
 
 /// The first token of a part with three parts, from that of the first.
@@ -58,12 +58,12 @@ pub fn for_first(label: Quad) -> Option<u32>
 }
 
 /// A test and two values.
-fn conditional(maker: &mut Maker, place: Place, values: ThreeValues) -> Result<Value, NoMemory>
+fn conditional(maker: &mut Maker, place: Place, values: ThreeValues) -> Result<MadeParts, NoMemory>
     ensures { Makes (with_three (node_of values.first) (node_of values.second) (node_of values.third) maker.old (λ c l n. with_operator place (operation.Conditional c l n) maker.old)) maker.new result }
 {
     let (first, second) = (node_of(values.first), node_of(values.second));
     let (Some(test), Some(then), Some(otherwise)) = (first, second, node_of(values.third)) else {
-        return Ok(Value::One(Item::Nothing));
+        return Ok(MadeParts::One(MadePart::Nothing));
     };
     maker.operator(
         place,
@@ -76,12 +76,12 @@ fn conditional(maker: &mut Maker, place: Place, values: ThreeValues) -> Result<V
 }
 
 /// An `if` with an `else`.
-fn if_else(maker: &mut Maker, place: Place, values: ThreeValues) -> Result<Value, NoMemory>
+fn if_else(maker: &mut Maker, place: Place, values: ThreeValues) -> Result<MadeParts, NoMemory>
     ensures { Makes (with_two (node_of values.first) (node_of values.second) maker.old (λ l n. with_statement place (statement.If l n (node_of values.third)) maker.old)) maker.new result }
 {
     let otherwise = node_of(values.third);
     let (Some(test), Some(then)) = (node_of(values.first), node_of(values.second)) else {
-        return Ok(Value::One(Item::Nothing));
+        return Ok(MadeParts::One(MadePart::Nothing));
     };
     maker.statement(
         place,
@@ -100,7 +100,7 @@ fn method(
     scopes: &Scopes,
     spot: Spot,
     values: ThreeValues,
-) -> Result<Value, NoMemory>
+) -> Result<MadeParts, NoMemory>
     requires { IsSpot script.now.nodes scopes.now spot }
     ensures { Makes (method_made script.now.leaves (around_of scopes.now spot.inner) spot.place (λ n. property.Method (key_of (item_of values.first)) n) (length (parts_of values.second)) (tree_at script.now.nodes spot.last) (parts_of values.third) maker.old) maker.new result }
 {
@@ -109,11 +109,11 @@ fn method(
     let body = parts_of(alloc, values.third);
     let method = method_node(maker, script, scopes, spot, count, body)?;
     let key = key_of(alloc, item_of(values.first));
-    Ok(Value::One(Item::Property(Property::Method { key, method })))
+    Ok(MadeParts::One(MadePart::Property(Property::Method { key, method })))
 }
 
 /// A `try`.
-fn try_made(maker: &mut Maker, place: Place, values: ThreeValues) -> Result<Value, NoMemory>
+fn try_made(maker: &mut Maker, place: Place, values: ThreeValues) -> Result<MadeParts, NoMemory>
     ensures { Makes (with_statement place (statement.Try (block_of (item_of values.first)) (optional_catch (item_of values.second)) (optional_block (item_of values.third))) maker.old) maker.new result }
 {
     let block = block_of(maker.alloc(), item_of(values.first));
@@ -135,7 +135,7 @@ pub fn triple_made(
     spot: Spot,
     label: Triple,
     values: ThreeValues,
-) -> Result<Value, NoMemory>
+) -> Result<MadeParts, NoMemory>
     requires { IsSpot script.now.nodes scopes.now spot }
     ensures { Makes (triple_made script.now.leaves (around_of scopes.now spot.inner) spot.place label (tree_at script.now.nodes spot.last) values.first values.second values.third maker.old) maker.new result }
 {
@@ -154,14 +154,14 @@ pub fn for_made(
     inner: Setting,
     place: Place,
     values: ForValues,
-) -> Result<Value, NoMemory>
+) -> Result<MadeParts, NoMemory>
     requires { IsKnown scopes.now inner }
     ensures { Makes (for_made (around_of scopes.now inner) place values.first values.test values.step values.body maker.old) maker.new result }
 {
     let (first, test) = (node_of(values.first), node_of(values.test));
     let step = node_of(values.step);
     let Some(body) = node_of(values.body) else {
-        return Ok(Value::One(Item::Nothing));
+        return Ok(MadeParts::One(MadePart::Nothing));
     };
     maker.statement(
         place,

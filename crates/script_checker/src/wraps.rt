@@ -14,13 +14,13 @@ ghost use Rattle.script_checker.specs.Machine.{around_of};
 ghost use Rattle.script_checker.specs.Making.{Makes};
 ghost use Rattle.script_checker.specs.Spots.{IsKnown, IsSpot};
 ghost use Rattle.script_checker.specs.Values.{binds_in, block_of, elements_in, item_of, node_of, parts_of, target_of};
-ghost use Rattle.script_checker.specs.declared.values.Item.TheVariants as item;
-ghost use Rattle.script_checker.specs.declared.values.Value.TheVariants as value;
+ghost use Rattle.script_checker.specs.declared.made_parts.MadePart.TheVariants as made_part;
+ghost use Rattle.script_checker.specs.declared.made_parts.MadeParts.TheVariants as made_parts;
 
 use crate::lists::{binds_in, elements_in, nodes_in, properties_in};
 use crate::parts::{block_of, item_of, node_of, parts_of, target_of};
 use crate::tokens::{named, place_of};
-use crate::{Item, ItemList, Maker, Spot, Value};
+use crate::{MadePart, MadePartList, MadeParts, Maker, Spot};
 use es_source::Place;
 use es_tree::{Access, Block, Catch, Declared, Key, Operator, Primary, Statement, UnaryOperator};
 use property_keys::NoMemory;
@@ -54,13 +54,13 @@ fn unary(
     maker: &mut Maker,
     place: Place,
     operator: UnaryOperator,
-    part: Value,
-) -> Result<Value, NoMemory>
+    part: MadeParts,
+) -> Result<MadeParts, NoMemory>
     ensures { Makes (with_one (node_of part) maker.old (λ n. with_operator place (operation.Unary operator n) maker.old)) maker.new result }
 {
     match node_of(part) {
         Some(operand) => maker.operator(place, Operator::Unary { operator, operand }),
-        None => Ok(Value::One(Item::Nothing)),
+        None => Ok(MadeParts::One(MadePart::Nothing)),
     }
 }
 
@@ -71,12 +71,12 @@ fn member(
     spot: Spot,
     dot: u32,
     word: u32,
-    part: Value,
-) -> Result<Value, NoMemory>
+    part: MadeParts,
+) -> Result<MadeParts, NoMemory>
     ensures { Makes (with_one (node_of part) maker.old (λ n. accessed spot.place (place_of script.now.leaves (Some dot)) spot.around.role (λ read write. access.Member n (units_at script.now.leaves word) read write) maker.old)) maker.new result }
 {
     let Some(base) = node_of(part) else {
-        return Ok(Value::One(Item::Nothing));
+        return Ok(MadeParts::One(MadePart::Nothing));
     };
     let name = own_units_at(maker.alloc(), script, word)?;
     let (read, write) = maker.sites(place_of(script, Some(dot)), spot.around.role)?;
@@ -92,7 +92,7 @@ fn member(
 }
 
 /// An object literal.
-fn object(maker: &mut Maker, place: Place, parts: ItemList) -> Result<Value, NoMemory>
+fn object(maker: &mut Maker, place: Place, parts: MadePartList) -> Result<MadeParts, NoMemory>
     ensures { Makes (with_object place parts maker.old) maker.new result }
 {
     let alloc = maker.alloc();
@@ -108,17 +108,22 @@ fn object(maker: &mut Maker, place: Place, parts: ItemList) -> Result<Value, NoM
 }
 
 /// A property name in square brackets.
-fn computed(part: Value) -> Value
-    ensures { (m : Made) → with_one (node_of part) m (λ n. one (item.Key (key.Computed n)) m) ≡ record { value = result; made = m } }
+fn computed(part: MadeParts) -> MadeParts
+    ensures { (m : Made) → with_one (node_of part) m (λ n. one (made_part.Key (key.Computed n)) m) ≡ record { value = result; made = m } }
 {
     match node_of(part) {
-        Some(n) => Value::One(Item::Key(Key::Computed(n))),
-        None => Value::One(Item::Nothing),
+        Some(n) => MadeParts::One(MadePart::Key(Key::Computed(n))),
+        None => MadeParts::One(MadePart::Nothing),
     }
 }
 
 /// A block: a statement, or a part of a `try` or of a catch.
-fn block(maker: &mut Maker, scopes: &Scopes, spot: Spot, parts: ItemList) -> Result<Value, NoMemory>
+fn block(
+    maker: &mut Maker,
+    scopes: &Scopes,
+    spot: Spot,
+    parts: MadePartList,
+) -> Result<MadeParts, NoMemory>
     requires { IsKnown scopes.now spot.inner }
     ensures { Makes (block_made spot.place spot.around.role (names_in (chain_at scopes.now spot.inner.scope.0)) parts maker.old) maker.new result }
 {
@@ -127,7 +132,7 @@ fn block(maker: &mut Maker, scopes: &Scopes, spot: Spot, parts: ItemList) -> Res
         items: nodes_in(maker.alloc(), parts.as_slice())?,
     };
     if is_part(spot.around.role) {
-        Ok(Value::One(Item::Block(block)))
+        Ok(MadeParts::One(MadePart::Block(block)))
     } else {
         maker.statement(spot.place, Statement::Block(block))
     }
@@ -141,22 +146,22 @@ fn is_part(role: Role) -> bool
 }
 
 /// An expression as a statement.
-fn evaluate(maker: &mut Maker, place: Place, part: Value) -> Result<Value, NoMemory>
+fn evaluate(maker: &mut Maker, place: Place, part: MadeParts) -> Result<MadeParts, NoMemory>
     ensures { Makes (with_one (node_of part) maker.old (λ n. with_statement place (statement.Expression n) maker.old)) maker.new result }
 {
     match node_of(part) {
         Some(n) => maker.statement(place, Statement::Expression(n)),
-        None => Ok(Value::One(Item::Nothing)),
+        None => Ok(MadeParts::One(MadePart::Nothing)),
     }
 }
 
 /// A `throw`.
-fn throw(maker: &mut Maker, place: Place, part: Value) -> Result<Value, NoMemory>
+fn throw(maker: &mut Maker, place: Place, part: MadeParts) -> Result<MadeParts, NoMemory>
     ensures { Makes (with_one (node_of part) maker.old (λ n. with_statement place (statement.Throw n) maker.old)) maker.new result }
 {
     match node_of(part) {
         Some(n) => maker.statement(place, Statement::Throw(n)),
-        None => Ok(Value::One(Item::Nothing)),
+        None => Ok(MadeParts::One(MadePart::Nothing)),
     }
 }
 
@@ -167,14 +172,14 @@ fn binding(
     scopes: &Scopes,
     spot: Spot,
     token: u32,
-    part: Value,
-) -> Result<Value, NoMemory>
+    part: MadeParts,
+) -> Result<MadeParts, NoMemory>
     requires { IsSpot script.now.nodes scopes.now spot }
-    ensures { Makes (one (item.Bind (record { named = named script.now.leaves (chain_at scopes.now spot.around.scope.0) token; value = node_of part })) maker.old) maker.new result }
+    ensures { Makes (one (made_part.Bind (record { named = named script.now.leaves (chain_at scopes.now spot.around.scope.0) token; value = node_of part })) maker.old) maker.new result }
 {
     let own = named(maker.alloc(), script, scopes, spot.around.scope, token)?;
     let value = node_of(part);
-    Ok(Value::One(Item::Bind(Declared { named: own, value })))
+    Ok(MadeParts::One(MadePart::Bind(Declared { named: own, value })))
 }
 
 /// A catch with its parameter.
@@ -184,14 +189,14 @@ fn catch_made(
     scopes: &Scopes,
     spot: Spot,
     token: u32,
-    part: Value,
-) -> Result<Value, NoMemory>
+    part: MadeParts,
+) -> Result<MadeParts, NoMemory>
     requires { IsSpot script.now.nodes scopes.now spot }
-    ensures { Makes (one (item.Catch (record { parameter = Some (named script.now.leaves (chain_at scopes.now spot.inner.scope.0) token); block = block_of (item_of part) })) maker.old) maker.new result }
+    ensures { Makes (one (made_part.Catch (record { parameter = Some (named script.now.leaves (chain_at scopes.now spot.inner.scope.0) token); block = block_of (item_of part) })) maker.old) maker.new result }
 {
     let alloc = maker.alloc();
     let own = named(alloc, script, scopes, spot.inner.scope, token)?;
-    Ok(Value::One(Item::Catch(Catch {
+    Ok(MadeParts::One(MadePart::Catch(Catch {
         parameter: Some(own),
         block: block_of(alloc, item_of(part)),
     })))
@@ -203,8 +208,8 @@ fn update(
     place: Place,
     increment: bool,
     prefix: bool,
-    part: Value,
-) -> Result<Value, NoMemory>
+    part: MadeParts,
+) -> Result<MadeParts, NoMemory>
     ensures { Makes (with_operator place (operation.Update increment prefix (target_of (item_of part))) maker.old) maker.new result }
 {
     let target = target_of(maker.alloc(), item_of(part));
@@ -219,7 +224,7 @@ fn update(
 }
 
 /// An array literal.
-fn array(maker: &mut Maker, place: Place, part: Value) -> Result<Value, NoMemory>
+fn array(maker: &mut Maker, place: Place, part: MadeParts) -> Result<MadeParts, NoMemory>
     ensures { Makes (with_primary place (primary.Array (elements_in (parts_of part))) maker.old) maker.new result }
 {
     let alloc = maker.alloc();
@@ -229,7 +234,12 @@ fn array(maker: &mut Maker, place: Place, part: Value) -> Result<Value, NoMemory
 }
 
 /// A lexical declaration.
-fn lexical(maker: &mut Maker, place: Place, constant: bool, part: Value) -> Result<Value, NoMemory>
+fn lexical(
+    maker: &mut Maker,
+    place: Place,
+    constant: bool,
+    part: MadeParts,
+) -> Result<MadeParts, NoMemory>
     ensures { Makes (with_statement place (statement.Lexical constant (binds_in (parts_of part))) maker.old) maker.new result }
 {
     let alloc = maker.alloc();
@@ -238,10 +248,10 @@ fn lexical(maker: &mut Maker, place: Place, constant: bool, part: Value) -> Resu
 }
 
 /// A catch without a parameter.
-fn plain_catch(alloc: Global, part: Value) -> Value
-    ensures { result ≡ value.One (item.Catch (record { parameter = None; block = block_of (item_of part) })) }
+fn plain_catch(alloc: Global, part: MadeParts) -> MadeParts
+    ensures { result ≡ made_parts.One (made_part.Catch (record { parameter = None; block = block_of (item_of part) })) }
 {
-    Value::One(Item::Catch(Catch {
+    MadeParts::One(MadePart::Catch(Catch {
         parameter: None,
         block: block_of(alloc, item_of(part)),
     }))
@@ -254,8 +264,8 @@ pub fn wrap_made(
     scopes: &Scopes,
     spot: Spot,
     label: Wrap,
-    part: Value,
-) -> Result<Value, NoMemory>
+    part: MadeParts,
+) -> Result<MadeParts, NoMemory>
     requires { IsSpot script.now.nodes scopes.now spot }
     ensures { Makes (wrap_made script.now.leaves (around_of scopes.now spot.around) (around_of scopes.now spot.inner) spot.place label part maker.old) maker.new result }
 {

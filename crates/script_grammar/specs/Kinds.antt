@@ -2,113 +2,129 @@
 use Rattle.std.specs.Prelude.{ℕ, Bool, true, false, List, [], ◌∷◌, codes, bytes_eq, Option, Some, None, unwrap_or, if◌then◌else◌}
 use Rattle.es_source.specs.declared.token.TokenKind.{TokenKind}
 use Rattle.es_source.specs.declared.token.TokenKind.TheVariants as token
-use Rattle.es_tree.specs.declared.expressions.AssignOperator.TheVariants as assign
+use Rattle.es_tree.specs.declared.expressions.AssignOperator.TheVariants as assign_operator
 use Rattle.es_tree.specs.declared.expressions.BinaryOperator.{BinaryOperator}
-use Rattle.es_tree.specs.declared.expressions.BinaryOperator.TheVariants as binary
-use Rattle.es_tree.specs.declared.expressions.ShortOperator.TheVariants as short
+use Rattle.es_tree.specs.declared.expressions.BinaryOperator.TheVariants as binary_operator
+use Rattle.es_tree.specs.declared.expressions.ShortOperator.TheVariants as short_operator
 use Rattle.es_tree.specs.declared.expressions.UnaryOperator.{UnaryOperator}
-use Rattle.es_tree.specs.declared.expressions.UnaryOperator.TheVariants as unary
+use Rattle.es_tree.specs.declared.expressions.UnaryOperator.TheVariants as unary_operator
 use Rattle.script_grammar.specs.declared.kinds.NameRole.TheVariants as role
-use Rattle.script_grammar.specs.declared.kinds.Word.TheVariants as w
-use Rattle.script_grammar.specs.declared.kinds.Bracket.TheVariants as b
-use Rattle.script_grammar.specs.declared.kinds.Mark.TheVariants as m
+use Rattle.script_grammar.specs.declared.kinds.Word.TheVariants as words
+use Rattle.script_grammar.specs.declared.kinds.Bracket.TheVariants as brackets
+use Rattle.script_grammar.specs.declared.kinds.Mark.TheVariants as marks
 use Rattle.script_grammar.specs.declared.kinds.Kind.{Kind}
-use Rattle.script_grammar.specs.declared.kinds.Kind.TheVariants as k
+use Rattle.script_grammar.specs.declared.kinds.Kind.TheVariants as kinds
 use Rattle.script_grammar.specs.declared.kinds.Level.{Level}
-use Rattle.script_grammar.specs.declared.kinds.Level.TheVariants as v
+use Rattle.script_grammar.specs.declared.kinds.Level.TheVariants as levels
 use Rattle.script_grammar.specs.declared.labels.Pair.{Pair}
 use Rattle.script_grammar.specs.declared.labels.Pair.TheVariants as pair
 
 -- The words with a kind of their own: those that are reserved in either mode (ECMA-262, 12.7.2), and the names `get` and `set`.
-unfoldable pub words : List (List ℕ × Kind)
-words =
-    (codes "await", k.Word w.Unused) ∷ (codes "break", k.Word w.Break) ∷ (codes "case", k.Word w.Unused) ∷ (codes "catch", k.Word w.Catch)
-    ∷ (codes "class", k.Word w.Unused) ∷ (codes "const", k.Word w.Const) ∷ (codes "continue", k.Word w.Continue) ∷ (codes "debugger", k.Word w.Unused)
-    ∷ (codes "default", k.Word w.Unused) ∷ (codes "delete", k.Word w.Delete) ∷ (codes "do", k.Word w.Unused) ∷ (codes "else", k.Word w.Else)
-    ∷ (codes "enum", k.Word w.Unused) ∷ (codes "export", k.Word w.Unused) ∷ (codes "extends", k.Word w.Unused) ∷ (codes "false", k.Word w.False)
-    ∷ (codes "finally", k.Word w.Finally) ∷ (codes "for", k.Word w.For) ∷ (codes "function", k.Word w.Function) ∷ (codes "if", k.Word w.If)
-    ∷ (codes "implements", k.Word w.Unused) ∷ (codes "import", k.Word w.Unused) ∷ (codes "in", k.Infix binary.In)
-    ∷ (codes "instanceof", k.Infix binary.InstanceOf) ∷ (codes "interface", k.Word w.Unused) ∷ (codes "let", k.Word w.Let)
-    ∷ (codes "new", k.Word w.New) ∷ (codes "null", k.Word w.Null) ∷ (codes "package", k.Word w.Unused) ∷ (codes "private", k.Word w.Unused)
-    ∷ (codes "protected", k.Word w.Unused) ∷ (codes "public", k.Word w.Unused) ∷ (codes "return", k.Word w.Return) ∷ (codes "static", k.Word w.Unused)
-    ∷ (codes "super", k.Word w.Unused) ∷ (codes "switch", k.Word w.Unused) ∷ (codes "this", k.Word w.This) ∷ (codes "throw", k.Word w.Throw)
-    ∷ (codes "true", k.Word w.True) ∷ (codes "try", k.Word w.Try) ∷ (codes "typeof", k.Word w.Typeof) ∷ (codes "var", k.Word w.Unused)
-    ∷ (codes "void", k.Word w.Void) ∷ (codes "while", k.Word w.While) ∷ (codes "with", k.Word w.Unused) ∷ (codes "yield", k.Word w.Unused)
-    ∷ (codes "get", k.Name role.Get) ∷ (codes "set", k.Name role.Set) ∷ []
+unfoldable pub kinds_of_words : List (List ℕ × Kind)
+kinds_of_words =
+    (codes "await", kinds.Word words.Unused) ∷ (codes "break", kinds.Word words.Break) ∷ (codes "case", kinds.Word words.Unused)
+    ∷ (codes "catch", kinds.Word words.Catch)
+    ∷ (codes "class", kinds.Word words.Unused) ∷ (codes "const", kinds.Word words.Const) ∷ (codes "continue", kinds.Word words.Continue)
+    ∷ (codes "debugger", kinds.Word words.Unused)
+    ∷ (codes "default", kinds.Word words.Unused) ∷ (codes "delete", kinds.Word words.Delete) ∷ (codes "do", kinds.Word words.Unused)
+    ∷ (codes "else", kinds.Word words.Else)
+    ∷ (codes "enum", kinds.Word words.Unused) ∷ (codes "export", kinds.Word words.Unused) ∷ (codes "extends", kinds.Word words.Unused)
+    ∷ (codes "false", kinds.Word words.False)
+    ∷ (codes "finally", kinds.Word words.Finally) ∷ (codes "for", kinds.Word words.For) ∷ (codes "function", kinds.Word words.Function)
+    ∷ (codes "if", kinds.Word words.If)
+    ∷ (codes "implements", kinds.Word words.Unused) ∷ (codes "import", kinds.Word words.Unused) ∷ (codes "in", kinds.Infix binary_operator.In)
+    ∷ (codes "instanceof", kinds.Infix binary_operator.InstanceOf) ∷ (codes "interface", kinds.Word words.Unused) ∷ (codes "let", kinds.Word words.Let)
+    ∷ (codes "new", kinds.Word words.New) ∷ (codes "null", kinds.Word words.Null) ∷ (codes "package", kinds.Word words.Unused)
+    ∷ (codes "private", kinds.Word words.Unused)
+    ∷ (codes "protected", kinds.Word words.Unused) ∷ (codes "public", kinds.Word words.Unused) ∷ (codes "return", kinds.Word words.Return)
+    ∷ (codes "static", kinds.Word words.Unused)
+    ∷ (codes "super", kinds.Word words.Unused) ∷ (codes "switch", kinds.Word words.Unused) ∷ (codes "this", kinds.Word words.This)
+    ∷ (codes "throw", kinds.Word words.Throw)
+    ∷ (codes "true", kinds.Word words.True) ∷ (codes "try", kinds.Word words.Try) ∷ (codes "typeof", kinds.Word words.Typeof)
+    ∷ (codes "var", kinds.Word words.Unused)
+    ∷ (codes "void", kinds.Word words.Void) ∷ (codes "while", kinds.Word words.While) ∷ (codes "with", kinds.Word words.Unused)
+    ∷ (codes "yield", kinds.Word words.Unused)
+    ∷ (codes "get", kinds.Name role.Get) ∷ (codes "set", kinds.Name role.Set) ∷ []
 
 -- The punctuators (12.8).
 unfoldable pub punctuators : List (List ℕ × Kind)
 punctuators =
-    (codes "{", k.Bracket b.BraceOpen) ∷ (codes "}", k.Bracket b.BraceClose) ∷ (codes "(", k.Bracket b.Open) ∷ (codes ")", k.Bracket b.Close)
-    ∷ (codes "[", k.Bracket b.SquareOpen) ∷ (codes "]", k.Bracket b.SquareClose)
-    ∷ (codes ".", k.Mark m.Dot) ∷ (codes "...", k.Mark m.Spread) ∷ (codes ";", k.Mark m.Semicolon) ∷ (codes ",", k.Mark m.Comma)
-    ∷ (codes "<", k.Infix binary.Less) ∷ (codes ">", k.Infix binary.Greater) ∷ (codes "<=", k.Infix binary.AtMost) ∷ (codes ">=", k.Infix binary.AtLeast)
-    ∷ (codes "==", k.Infix binary.Equal) ∷ (codes "!=", k.Infix binary.NotEqual)
-    ∷ (codes "===", k.Infix binary.StrictlyEqual) ∷ (codes "!==", k.Infix binary.NotStrictlyEqual)
-    ∷ (codes "+", k.Infix binary.Add) ∷ (codes "-", k.Infix binary.Subtract) ∷ (codes "*", k.Infix binary.Multiply) ∷ (codes "%", k.Infix binary.Remainder)
-    ∷ (codes "++", k.Update true) ∷ (codes "--", k.Update false) ∷ (codes "!", k.Mark m.Not)
-    ∷ (codes "&&", k.Short short.And) ∷ (codes "||", k.Short short.Or) ∷ (codes "??", k.Short short.Coalesce)
-    ∷ (codes "?", k.Mark m.Question) ∷ (codes ":", k.Mark m.Colon)
-    ∷ (codes "=", k.Assign assign.Plain) ∷ (codes "+=", k.Assign assign.Add) ∷ (codes "-=", k.Assign assign.Subtract)
-    ∷ (codes "*=", k.Assign assign.Multiply) ∷ (codes "%=", k.Assign assign.Remainder) ∷ (codes "=>", k.Mark m.Arrow) ∷ []
+    (codes "{", kinds.Bracket brackets.BraceOpen) ∷ (codes "}", kinds.Bracket brackets.BraceClose) ∷ (codes "(", kinds.Bracket brackets.Open)
+    ∷ (codes ")", kinds.Bracket brackets.Close)
+    ∷ (codes "[", kinds.Bracket brackets.SquareOpen) ∷ (codes "]", kinds.Bracket brackets.SquareClose)
+    ∷ (codes ".", kinds.Mark marks.Dot) ∷ (codes "...", kinds.Mark marks.Spread) ∷ (codes ";", kinds.Mark marks.Semicolon)
+    ∷ (codes ",", kinds.Mark marks.Comma)
+    ∷ (codes "<", kinds.Infix binary_operator.Less) ∷ (codes ">", kinds.Infix binary_operator.Greater)
+    ∷ (codes "<=", kinds.Infix binary_operator.AtMost) ∷ (codes ">=", kinds.Infix binary_operator.AtLeast)
+    ∷ (codes "==", kinds.Infix binary_operator.Equal) ∷ (codes "!=", kinds.Infix binary_operator.NotEqual)
+    ∷ (codes "===", kinds.Infix binary_operator.StrictlyEqual) ∷ (codes "!==", kinds.Infix binary_operator.NotStrictlyEqual)
+    ∷ (codes "+", kinds.Infix binary_operator.Add) ∷ (codes "-", kinds.Infix binary_operator.Subtract)
+    ∷ (codes "*", kinds.Infix binary_operator.Multiply) ∷ (codes "%", kinds.Infix binary_operator.Remainder)
+    ∷ (codes "++", kinds.Update true) ∷ (codes "--", kinds.Update false) ∷ (codes "!", kinds.Mark marks.Not)
+    ∷ (codes "&&", kinds.Short short_operator.And) ∷ (codes "||", kinds.Short short_operator.Or) ∷ (codes "??", kinds.Short short_operator.Coalesce)
+    ∷ (codes "?", kinds.Mark marks.Question) ∷ (codes ":", kinds.Mark marks.Colon)
+    ∷ (codes "=", kinds.Assign assign_operator.Plain) ∷ (codes "+=", kinds.Assign assign_operator.Add)
+    ∷ (codes "-=", kinds.Assign assign_operator.Subtract)
+    ∷ (codes "*=", kinds.Assign assign_operator.Multiply) ∷ (codes "%=", kinds.Assign assign_operator.Remainder)
+    ∷ (codes "=>", kinds.Mark marks.Arrow) ∷ []
 
 abbrev pub kind_in : List (List ℕ × Kind) → List ℕ → Option Kind
 kind_in [] text = None
 kind_in (row ∷ rows) text = if bytes_eq row.0 text then Some row.1 else kind_in rows text
 
 abbrev pub kind_of : TokenKind → Kind
-kind_of (token.Name units) = unwrap_or (kind_in words units) (k.Name role.Plain)
-kind_of (token.Number value) = k.Number
-kind_of (token.Text units strict) = k.Text
-kind_of (token.Punctuator units) = unwrap_or (kind_in punctuators units) k.Unknown
+kind_of (token.Name units) = unwrap_or (kind_in kinds_of_words units) (kinds.Name role.Plain)
+kind_of (token.Number value) = kinds.Number
+kind_of (token.Text units strict) = kinds.Text
+kind_of (token.Punctuator units) = unwrap_or (kind_in punctuators units) kinds.Unknown
 
 -- Word: any word, also a reserved one.
 abbrev pub is_word : Kind → Bool
-is_word (k.Name r) = true
-is_word (k.Word word) = true
-is_word (k.Infix binary.In) = true
-is_word (k.Infix binary.InstanceOf) = true
+is_word (kinds.Name r) = true
+is_word (kinds.Word word) = true
+is_word (kinds.Infix binary_operator.In) = true
+is_word (kinds.Infix binary_operator.InstanceOf) = true
 is_word _ = false
 
 -- Word | Text | Number
 abbrev pub is_key : Kind → Bool
-is_key k.Text = true
-is_key k.Number = true
+is_key kinds.Text = true
+is_key kinds.Number = true
 is_key kind = is_word kind
 
 -- "delete" | "void" | "typeof" | "+" | "-" | "!"
 abbrev pub prefix_of : Kind → Option UnaryOperator
-prefix_of (k.Word w.Delete) = Some unary.Delete
-prefix_of (k.Word w.Void) = Some unary.Void
-prefix_of (k.Word w.Typeof) = Some unary.Typeof
-prefix_of (k.Infix binary.Add) = Some unary.Plus
-prefix_of (k.Infix binary.Subtract) = Some unary.Minus
-prefix_of (k.Mark m.Not) = Some unary.Not
+prefix_of (kinds.Word words.Delete) = Some unary_operator.Delete
+prefix_of (kinds.Word words.Void) = Some unary_operator.Void
+prefix_of (kinds.Word words.Typeof) = Some unary_operator.Typeof
+prefix_of (kinds.Infix binary_operator.Add) = Some unary_operator.Plus
+prefix_of (kinds.Infix binary_operator.Subtract) = Some unary_operator.Minus
+prefix_of (kinds.Mark marks.Not) = Some unary_operator.Not
 prefix_of _ = None
 
 abbrev pub level_of : BinaryOperator → Level
-level_of binary.Equal = v.Equal
-level_of binary.NotEqual = v.Equal
-level_of binary.StrictlyEqual = v.Equal
-level_of binary.NotStrictlyEqual = v.Equal
-level_of binary.Less = v.Relation
-level_of binary.Greater = v.Relation
-level_of binary.AtMost = v.Relation
-level_of binary.AtLeast = v.Relation
-level_of binary.InstanceOf = v.Relation
-level_of binary.In = v.Relation
-level_of binary.Add = v.Add
-level_of binary.Subtract = v.Add
-level_of binary.Multiply = v.Multiply
-level_of binary.Remainder = v.Multiply
+level_of binary_operator.Equal = levels.Equal
+level_of binary_operator.NotEqual = levels.Equal
+level_of binary_operator.StrictlyEqual = levels.Equal
+level_of binary_operator.NotStrictlyEqual = levels.Equal
+level_of binary_operator.Less = levels.Relation
+level_of binary_operator.Greater = levels.Relation
+level_of binary_operator.AtMost = levels.Relation
+level_of binary_operator.AtLeast = levels.Relation
+level_of binary_operator.InstanceOf = levels.Relation
+level_of binary_operator.In = levels.Relation
+level_of binary_operator.Add = levels.Add
+level_of binary_operator.Subtract = levels.Add
+level_of binary_operator.Multiply = levels.Multiply
+level_of binary_operator.Remainder = levels.Multiply
 
 -- An operator between two operands that groups from the left: its level, and the label of what it makes.
 abbrev pub infix_of : Kind → Option (Level × Pair)
-infix_of (k.Short short.Or) = Some (v.Or, pair.Short short.Or)
-infix_of (k.Short short.And) = Some (v.And, pair.Short short.And)
-infix_of (k.Infix op) = Some (level_of op, pair.Binary op)
+infix_of (kinds.Short short_operator.Or) = Some (levels.Or, pair.Short short_operator.Or)
+infix_of (kinds.Short short_operator.And) = Some (levels.And, pair.Short short_operator.And)
+infix_of (kinds.Infix op) = Some (level_of op, pair.Binary op)
 infix_of _ = None
 
 abbrev pub is_in : Kind → Bool
-is_in (k.Infix binary.In) = true
+is_in (kinds.Infix binary_operator.In) = true
 is_in _ = false

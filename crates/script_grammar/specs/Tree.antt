@@ -1,6 +1,6 @@
 -- The tree of a script. Its labels name tokens by their numbers. Parentheses have a label of their own, so that `(a)` is no target.
 use Rattle.std.specs.Prelude.{ℕ, Bool, true, false, not, Option, Some, None}
-use Rattle.es_tree.specs.declared.expressions.ShortOperator.TheVariants as s
+use Rattle.es_tree.specs.declared.expressions.ShortOperator.TheVariants as short_operator
 use Rattle.script_grammar.specs.declared.labels.Atom.{Atom as AtomLabel}
 use Rattle.script_grammar.specs.declared.labels.Atom.TheVariants as atom
 use Rattle.script_grammar.specs.declared.labels.Wrap.{Wrap as WrapLabel}
@@ -12,12 +12,12 @@ use Rattle.script_grammar.specs.declared.labels.Triple.TheVariants as triple
 use Rattle.script_grammar.specs.declared.labels.Quad.{Quad as QuadLabel}
 use Rattle.script_grammar.specs.declared.labels.Quad.TheVariants as quad
 
-pub data Tree : Type 0 where
-  Atom : AtomLabel → Tree
-  Wrap : WrapLabel → Tree → Tree
-  Pair : PairLabel → Tree → Tree → Tree
-  Triple : TripleLabel → Tree → Tree → Tree → Tree
-  Quad : QuadLabel → Tree → Tree → Tree → Tree → Tree
+pub data ParseTree : Type 0 where
+  Atom : AtomLabel → ParseTree
+  Wrap : WrapLabel → ParseTree → ParseTree
+  Pair : PairLabel → ParseTree → ParseTree → ParseTree
+  Triple : TripleLabel → ParseTree → ParseTree → ParseTree → ParseTree
+  Quad : QuadLabel → ParseTree → ParseTree → ParseTree → ParseTree → ParseTree
 
 abbrev pub accesses : WrapLabel → Bool
 accesses (wrap.Member dot word) = true
@@ -32,25 +32,25 @@ names (atom.Name name) = true
 names _ = false
 
 -- A target is a name or a member access, and not in parentheses.
-abbrev pub is_target : Tree → Bool
+abbrev pub is_target : ParseTree → Bool
 is_target (Atom f) = names f
 is_target (Wrap f e) = accesses f
 is_target (Pair f l e) = indexes f
 is_target _ = false
 
 abbrev pub is_and_or : PairLabel → Bool
-is_and_or (pair.Short s.And) = true
-is_and_or (pair.Short s.Or) = true
+is_and_or (pair.Short short_operator.And) = true
+is_and_or (pair.Short short_operator.Or) = true
 is_and_or _ = false
 
 -- What may stand beside `??`: neither `&&` nor `||`, unless in parentheses.
-abbrev pub is_plain : Tree → Bool
+abbrev pub is_plain : ParseTree → Bool
 is_plain (Pair f l e) = not (is_and_or f)
 is_plain _ = true
 
 -- The number of the first token of what a tree stands for: the label has it, or it is that of the first part. A list, what is left out, a hole and a
 -- catch are no nodes and have none.
-abbrev pub first_token : Tree → Option ℕ
+abbrev pub first_token : ParseTree → Option ℕ
 first_token (Atom atom.Nothing) = None
 first_token (Atom (atom.This i)) = Some i
 first_token (Atom (atom.Null i)) = Some i

@@ -1,3 +1,5 @@
+//! What is done with the newest values.
+
 use crate::{Atom, Pair, Quad, Triple, Wrap};
 
 /// How a value is made, or how the newest values become one.

@@ -12,7 +12,7 @@ ghost use Rattle.script_grammar.specs.declared.labels.Wrap.TheVariants as wrap;
 ghost use Rattle.script_grammar.specs.declared.labels.Pair.TheVariants as pair;
 ghost use Rattle.script_grammar.specs.declared.labels.Triple.TheVariants as triple;
 ghost use Rattle.script_grammar.specs.declared.labels.Quad.TheVariants as quad;
-ghost use Rattle.script_grammar.specs.Tree.{Tree as tree};
+ghost use Rattle.script_grammar.specs.Tree.{ParseTree as tree};
 ghost use Rattle.script_grammar.specs.Grammar.{nothing};
 ghost use Rattle.script_grammar.specs.Samples.{Accepts, FaultAt, all, block, call, declare, evaluate, inside, name, number, parenthesis, parenthesised, sum};
 

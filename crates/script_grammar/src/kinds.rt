@@ -1,3 +1,5 @@
+//! What a token is to the grammar.
+
 use es_tree::{AssignOperator, BinaryOperator, ShortOperator};
 
 /// A word that is reserved and is no operator between two operands (ECMA-262, 12.7.2).

@@ -1,3 +1,6 @@
+//! The leaves of a script.
+
+use es_source::Place;
 use property_keys::Units;
 
 /// What a token of a script says.
@@ -11,10 +14,9 @@ pub enum LeafKind {
     Punctuator,
 }
 
-/// A token of a script, with the line and the column at which it begins, both from 1.
+/// A token of a script, with the place at which it begins.
 #[derive(Drop)]
 pub struct Leaf {
     pub kind: LeafKind,
-    pub line: u32,
-    pub column: u32,
+    pub place: Place,
 }

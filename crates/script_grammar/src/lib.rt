@@ -16,7 +16,7 @@ pub use act::Act;
 pub use kinds::{Bracket, Kind, Level, Mark, NameRole, Word};
 pub use labels::{Atom, Pair, Quad, Triple, Wrap};
 pub use leaf::{Leaf, LeafKind};
-pub use node::Node;
+pub use node::ParseNode;
 pub use script::Script;
 pub use sign::Sign;
 pub use symbol::{Expected, Listing, Loose, Stage, Symbol, Tail, Terminal};

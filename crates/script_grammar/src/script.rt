@@ -1,13 +1,15 @@
+//! A script in the grammar's form.
+
 ghost use Rattle.std.specs.Prelude.{◌≡◌, ◌<◌, length, slice_get, Some};
 ghost use Rattle.script_grammar.specs.Scripts.{parts_of};
 
-use crate::{Leaf, Node};
+use crate::{Leaf, ParseNode};
 use std::marker::Model;
 
 /// A script before its names are resolved: its nodes, its root, and one leaf for each token, by which the labels of the nodes name tokens.
 #[derive(Drop)]
 pub struct Script {
-    nodes: Vec<Node>,
+    nodes: Vec<ParseNode>,
     leaves: Vec<Leaf>,
     root: u32,
 }
@@ -22,7 +24,7 @@ impl Model for Script {
 
 impl Script {
     /// A script of nodes and leaves.
-    pub fn new(nodes: Vec<Node>, leaves: Vec<Leaf>, root: u32) -> Script
+    pub fn new(nodes: Vec<ParseNode>, leaves: Vec<Leaf>, root: u32) -> Script
         ensures { result ≡ parts_of nodes.items leaves.items root }
     {
         Script {
@@ -54,7 +56,7 @@ impl Script {
     }
 
     /// The node with a known number.
-    pub fn node(&self, n: u32) -> Node
+    pub fn node(&self, n: u32) -> ParseNode
         requires { n < length self.now.nodes }
         ensures { slice_get self.now.nodes n ≡ Some result }
     {

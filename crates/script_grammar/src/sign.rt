@@ -1,3 +1,5 @@
+//! Tokens, and semicolons that are put in.
+
 use crate::Kind;
 
 /// What is read next: a token of the file, with its number from 0 and whether a line break stands before it, or a semicolon that is put in.

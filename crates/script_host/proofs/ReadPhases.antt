@@ -5,20 +5,20 @@ use Rattle.es_tree.specs.Tree.{Tree as Checked}
 use Rattle.script_checker.specs.Contract.{Checks}
 use Rattle.script_grammar.specs.declared.leaf.Leaf.{Leaf}
 use Rattle.script_grammar.specs.Scripts.{Parts}
-use Rattle.script_parser.specs.Contract.{IsScript, IsSound}
+use Rattle.script_parser.specs.Contract.{IsScript, IsSoundScript}
 use Rattle.script_rules.specs.Faults.{static_fault}
 use Rattle.script_rules.specs.FirstFault.{at_tokens, at_grammar, at_rules}
 use Rattle.script_checker.specs.Made.{checked_tree}
-use Rattle.script_syntax.specs.Readings.{Reads}
+use Rattle.script_syntax.specs.Readings.{GivesReading}
 use Rattle.es_source.specs.declared.stop.ReadStop.{ReadStop}
 use Rattle.es_source.specs.declared.stop.ReadStop.TheVariants.{Fault, NoMemory}
 use Rattle.script_host.specs.Reading.{ReadsScript}
 
-pub tokens_stop : (bytes : List ℕ) (stop : ReadStop) → Reads (reading_of bytes) (Err stop) → ReadsScript bytes (Err stop)
+pub tokens_stop : (bytes : List ℕ) (stop : ReadStop) → GivesReading (reading_of bytes) (Err stop) → ReadsScript bytes (Err stop)
 tokens_stop bytes (Fault f) read = at_tokens read
 tokens_stop bytes NoMemory read = tt
 
-pub grammar_stops : (bytes : List ℕ) (r : Reading) (stop : ReadStop) → reading_of bytes ≡ Ok r → IsSound r (Err stop) → ReadsScript bytes (Err stop)
+pub grammar_stops : (bytes : List ℕ) (r : Reading) (stop : ReadStop) → reading_of bytes ≡ Ok r → IsSoundScript r (Err stop) → ReadsScript bytes (Err stop)
 grammar_stops bytes r (Fault f) ok has = at_grammar r ok has
 grammar_stops bytes r NoMemory ok has = tt
 

@@ -4,7 +4,7 @@ use Rattle.es_source.specs.declared.faults.SourceFault.{SourceFault}
 use Rattle.es_source.specs.Reading.{Reading, reading_of}
 use Rattle.es_tree.specs.Tree.{Tree as Checked}
 use Rattle.script_grammar.specs.Completed.{Script, Derives, HasGrammarFault}
-use Rattle.script_grammar.specs.Tree.{Tree}
+use Rattle.script_grammar.specs.Tree.{ParseTree}
 use Rattle.script_grammar.proofs.Answer.{one_answer as one_grammar_answer}
 use Rattle.script_grammar.proofs.Faults.{first_fault, faultless}
 use Rattle.script_rules.specs.Faults.{static_fault}
@@ -29,7 +29,7 @@ same_some : {T : Type 0} (x y : T) → Some x ≡ Some y → x ≡ y
 same_some x y h = cc
 
 -- a script has one tree before its names are resolved
-one_script : (r : Reading) (x y : Tree) → Derives r.tokens x → Derives r.tokens y → x ≡ y
+one_script : (r : Reading) (x y : ParseTree) → Derives r.tokens x → Derives r.tokens y → x ≡ y
 one_script r x y d e = let same : Script d.0 x ≡ Script e.0 y = one_grammar_answer d.1 e.1 in cc
 
 -- ---- a fault of length, of decoding or of tokens
@@ -48,10 +48,10 @@ no_tree bytes f t err tree = ok_err tree.0 f (sym tree.2 ∙ err)
 same_grammar : (r q : Reading) (g : Option SourceFault) → r ≡ q → HasGrammarFault r g → HasGrammarFault q g
 same_grammar r q g e has = subst (λ (p : Reading). HasGrammarFault p g) e has
 
-same_derives : (r q : Reading) (x : Tree) → r ≡ q → Derives r.tokens x → Derives q.tokens x
+same_derives : (r q : Reading) (x : ParseTree) → r ≡ q → Derives r.tokens x → Derives q.tokens x
 same_derives r q x e d = subst (λ (p : Reading). Derives p.tokens x) e d
 
-derived_or_faulty : (r : Reading) (f : SourceFault) (x : Tree) → HasGrammarFault r (Some f) → Derives r.tokens x → ⊥
+derived_or_faulty : (r : Reading) (f : SourceFault) (x : ParseTree) → HasGrammarFault r (Some f) → Derives r.tokens x → ⊥
 derived_or_faulty r f x has d =
     let unique = (first_fault r).2 in
     some_none f (unique (Some f) has ∙ sym (unique None ((faultless r).1 x d)))
@@ -71,10 +71,10 @@ no_tree_at_grammar bytes r f t ok has tree =
 
 -- ---- a fault of the static rules, or none
 
-same_static : (r q : Reading) (x y : Tree) (f : Option SourceFault) → r ≡ q → x ≡ y → static_fault (leaves_of r.tokens) x ≡ f → static_fault (leaves_of q.tokens) y ≡ f
+same_static : (r q : Reading) (x y : ParseTree) (f : Option SourceFault) → r ≡ q → x ≡ y → static_fault (leaves_of r.tokens) x ≡ f → static_fault (leaves_of q.tokens) y ≡ f
 same_static r q x y f e d s = ap (λ (p : Reading). static_fault (leaves_of p.tokens) y) (sym e) ∙ ap (static_fault (leaves_of r.tokens)) (sym d) ∙ s
 
-only_at_rules : (bytes : List ℕ) (r : Reading) (x : Tree) (f : Option SourceFault) (g : SourceFault) (wanted : Option SourceFault) → reading_of bytes ≡ Ok r → Derives r.tokens x
+only_at_rules : (bytes : List ℕ) (r : Reading) (x : ParseTree) (f : Option SourceFault) (g : SourceFault) (wanted : Option SourceFault) → reading_of bytes ≡ Ok r → Derives r.tokens x
     → static_fault (leaves_of r.tokens) x ≡ f → HasFirstFault bytes wanted → wanted ≡ Some g → f ≡ Some g
 only_at_rules bytes r x f g wanted ok d s (at_tokens e) same = absurd (ok_err r _ (sym ok ∙ e))
 only_at_rules bytes r x f g wanted ok d s (at_grammar q e has) same =
@@ -84,7 +84,7 @@ only_at_rules bytes r x f g wanted ok d s (at_rules q y e c t) same =
     let alike : y ≡ x = one_script r y x (same_derives q r y here c) d in
     sym s ∙ same_static q r y x wanted here alike t ∙ same
 
-tree_static : (bytes : List ℕ) (r : Reading) (x : Tree) (t : Checked) → reading_of bytes ≡ Ok r → Derives r.tokens x → IsTreeOf bytes t
+tree_static : (bytes : List ℕ) (r : Reading) (x : ParseTree) (t : Checked) → reading_of bytes ≡ Ok r → Derives r.tokens x → IsTreeOf bytes t
     → (static_fault (leaves_of r.tokens) x ≡ None) × (t ≡ checked_tree (leaves_of r.tokens) x)
 tree_static bytes r x t ok d tree =
     let here : tree.0 ≡ r = same_ok tree.0 r tree.2 ok in
@@ -95,7 +95,7 @@ tree_static bytes r x t ok d tree =
 
 -- ---- one first fault alone, or one tree alone
 
-reading_at : (bytes : List ℕ) (r : Reading) (x : Tree) (f : Option SourceFault) → reading_of bytes ≡ Ok r → Derives r.tokens x
+reading_at : (bytes : List ℕ) (r : Reading) (x : ParseTree) (f : Option SourceFault) → reading_of bytes ≡ Ok r → Derives r.tokens x
     → static_fault (leaves_of r.tokens) x ≡ f
     → HasReading bytes
 reading_at bytes r x (Some f) ok d s = inl (

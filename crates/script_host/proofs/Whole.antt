@@ -10,7 +10,8 @@ use Rattle.es_source.proofs.Phases.{too_long}
 use Rattle.hc_outside.specs.Files.{bytes_named}
 use Rattle.script_rules.specs.FirstFault.{HasFirstFault, at_tokens}
 use Rattle.script_host.specs.declared.status.Status.TheVariants as status
-use Rattle.script_host.specs.Answers.{Answer, Finishes, Misuses, Faults, Unbuilt, CannotRead, IsAnswer, IsAsked, IsAskedOfFile, FilesChange, most_bytes, file_of}
+use Rattle.es_source.specs.Reading.{most_bytes}
+use Rattle.script_host.specs.Answers.{Answer, Finishes, Misuses, Faults, Unbuilt, CannotRead, IsAnswer, IsAsked, IsAskedOfFile, FilesChange, file_of}
 use Rattle.script_host.specs.FileBytes.{IsReadOf}
 use Rattle.script_host.specs.FirstItems.{unbuilt, lines_of}
 use Rattle.script_host.specs.FirstOutput.{printed}

@@ -9,7 +9,8 @@ use Rattle.es_source.specs.declared.place.Place.{Place}
 use Rattle.es_tree.specs.Tree.{Tree}
 use Rattle.script_checker.specs.Contract.{IsTreeOf}
 use Rattle.script_rules.specs.FirstFault.{HasFirstFault}
-use Rattle.script_rules.specs.Faults.{code_number}
+use Rattle.es_source.specs.Codes.{code_number, fault_name}
+use Rattle.es_source.specs.Reading.{most_bytes}
 use Rattle.script_host.specs.FileBytes.{IsReadOf}
 use Rattle.script_host.specs.FirstItems.{unbuilt, lines_of}
 use Rattle.script_host.specs.FirstOutput.{printed}
@@ -17,10 +18,6 @@ use Rattle.script_host.specs.FirstOutput.{printed}
 abbrev pub begins_with_dash : List ℕ → Bool
 begins_with_dash [] = false
 begins_with_dash (c ∷ cs) = c == 45
-
--- a script has so many bytes at most
-abbrev pub most_bytes : ℕ
-most_bytes = 2 ^ 22
 
 -- the name of the file: the words are one word, which does not begin with `-`
 abbrev pub file_of : List (List ℕ) → Option (List ℕ)
@@ -48,30 +45,18 @@ output_of (Faults fault) = []
 output_of (Unbuilt place) = []
 output_of (CannotRead name) = []
 
--- the name of a fault's code
-abbrev pub fault_name : FaultCode → List ℕ
-fault_name code.TooLong = codes "TooLong"
-fault_name code.NotUtf8 = codes "NotUtf8"
-fault_name code.BadToken = codes "BadToken"
-fault_name code.Unexpected = codes "Unexpected"
-fault_name code.TooDeep = codes "TooDeep"
-fault_name code.Duplicate = codes "Duplicate"
-fault_name code.Capture = codes "Capture"
-fault_name code.BadBinding = codes "BadBinding"
-fault_name code.Misplaced = codes "Misplaced"
-
 -- a line and a column
-abbrev pub place_text : ℕ → ℕ → List ℕ
-place_text line column = decimal line ++ codes ":" ++ decimal column
+abbrev pub place_text : Place → List ℕ
+place_text place = decimal place.line ++ codes ":" ++ decimal place.column
 
 -- what it puts on the error output
 abbrev pub note_of : Answer → List ℕ
 note_of (Finishes output) = []
 note_of Misuses = codes "hcjs: usage: hcjs FILE\n"
 note_of (Faults fault) =
-    codes "hcjs: " ++ place_text fault.line fault.column ++ codes ": fault " ++ decimal (code_number fault.code) ++ codes " " ++ fault_name fault.code
+    codes "hcjs: " ++ place_text fault.place ++ codes ": fault " ++ decimal (code_number fault.code) ++ codes " " ++ fault_name fault.code
     ++ codes "\n"
-note_of (Unbuilt place) = codes "hcjs: " ++ place_text place.line place.column ++ codes ": not built\n"
+note_of (Unbuilt place) = codes "hcjs: " ++ place_text place ++ codes ": not built\n"
 note_of (CannotRead name) = codes "hcjs: cannot read " ++ name ++ codes "\n"
 
 -- what the files tell, and their count of faults before and after a call
@@ -94,7 +79,8 @@ IsAnswer bytes (CannotRead name) = ⊥
 -- the file was read without a fault of the files, and this is the answer to its bytes
 abbrev pub IsAskedOfFile : List (List ℕ) → FilesChange → Answer → Type 0
 IsAskedOfFile words files answer =
-    (name bytes : List ℕ) × (file_of words ≡ Some name) × (files.after ≡ files.before) × IsReadOf files.held name most_bytes bytes × IsAnswer bytes answer
+    (name bytes : List ℕ) × (file_of words ≡ Some name) × (files.after ≡ files.before) × IsReadOf files.held name most_bytes bytes
+    × IsAnswer bytes answer
 
 -- when an answer is asked for: the words first, then a fault of the files, then the script
 abbrev pub IsAsked : List (List ℕ) → FilesChange → Answer → Type 0

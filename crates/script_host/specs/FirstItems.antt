@@ -5,7 +5,7 @@ use Rattle.property_keys.specs.Wholes.{most_whole}
 use Rattle.es_tree.specs.declared.body.DeclaredFunction.{DeclaredFunction}
 use Rattle.es_tree.specs.declared.expressions.Access.{Access}
 use Rattle.es_tree.specs.declared.expressions.Access.TheVariants as access
-use Rattle.es_tree.specs.declared.expressions.AssignOperator.TheVariants as assign
+use Rattle.es_tree.specs.declared.expressions.AssignOperator.TheVariants as assign_operator
 use Rattle.es_tree.specs.declared.expressions.Operator.{Operator}
 use Rattle.es_tree.specs.declared.expressions.Operator.TheVariants as operator
 use Rattle.es_tree.specs.declared.facts.FunctionFacts.{FunctionFacts}
@@ -14,6 +14,7 @@ use Rattle.es_tree.specs.declared.names.Target.TheVariants as target
 use Rattle.es_tree.specs.declared.node.Node.{Node}
 use Rattle.es_tree.specs.declared.node.Node.TheVariants as node
 use Rattle.es_tree.specs.declared.numbers.NodeId.{NodeId}
+use Rattle.es_source.specs.Places.{is_before}
 use Rattle.es_source.specs.declared.place.Place.{Place}
 use Rattle.es_tree.specs.declared.primaries.Primary.{Primary}
 use Rattle.es_tree.specs.declared.primaries.Primary.TheVariants as primary
@@ -97,7 +98,7 @@ target_key tree name (target.Access n) = key_in tree name (node_at tree n)
 target_key tree name (target.Name named) = None
 
 abbrev pub store_in : Tree → List ℕ → Operator → Option Line
-store_in tree name (operator.Assign assign.Plain goal value) = store_line (target_key tree name goal) (whole_in (node_at tree value))
+store_in tree name (operator.Assign assign_operator.Plain goal value) = store_line (target_key tree name goal) (whole_in (node_at tree value))
 store_in tree name other = None
 
 -- ---- `print(N.K)`
@@ -210,15 +211,12 @@ unfit_item tree None (n ∷ items) = Some (place_at tree n)
 
 abbrev pub place_of_function : Option FunctionFacts → Place
 place_of_function None = no_place
-place_of_function (Some facts) = record { line = facts.line; column = facts.column }
+place_of_function (Some facts) = facts.place
 
 -- a declared function does not fit
 abbrev pub unfit_function : Tree → List DeclaredFunction → Option Place
 unfit_function tree [] = None
 unfit_function tree (f ∷ functions) = Some (place_of_function (slice_get tree.functions f.function.0))
-
-abbrev pub is_before : Place → Place → Bool
-is_before p q = nat_lt p.line q.line || (nat_eq p.line q.line && nat_lt p.column q.column)
 
 abbrev pub earlier : Option Place → Option Place → Option Place
 earlier None q = q

@@ -44,4 +44,5 @@ IsRightFor whole out err status.NoMemory = ⊤
 abbrev pub SpeaksOfWholeFile : Type 0
 SpeaksOfWholeFile =
     (words : List (List ℕ)) (files : FilesChange) (out err : SinkChange) (ended : Status) (all : List (List ℕ × List ℕ)) (name whole : List ℕ)
-    → Leaves words files out err ended → files.held ≡ Some all → file_of words ≡ Some name → bytes_named all name ≡ Some whole → IsRightFor whole out err ended
+    → Leaves words files out err ended → files.held ≡ Some all → file_of words ≡ Some name → bytes_named all name ≡ Some whole
+    → IsRightFor whole out err ended

@@ -1,3 +1,5 @@
+//! The bytes of a file.
+
 ghost use Rattle.std.specs.Prelude.{◌+◌, IfOk};
 ghost use Rattle.property_keys.specs.Counts.{TakesAtMost};
 ghost use Rattle.hc_outside.specs.Causes.{HasCause};

@@ -9,15 +9,12 @@ ghost use Rattle.script_host.specs.FirstRun.{line_of, IsInProfile};
 ghost use Rattle.script_host.specs.FirstTrees.{AreThere, IsThere};
 
 use crate::first_line::FirstLine;
-use crate::names::{is_key, is_name, is_text};
+use crate::names::{is_key, is_name};
 use es_tree::{
     Access, AssignOperator, Checked, Declared, Items, Node, NodeId, Operator, Primary, Statement,
     Target,
 };
-use property_keys::Units;
-
-/// The greatest whole number of the profile, 2^53 - 1.
-const MOST_WHOLE: i64 = 9_007_199_254_740_991;
+use property_keys::{MOST_WHOLE, Units};
 
 /// The name of the object, where the first item declares it.
 pub fn script_name(script: &Checked) -> Option<&Units>
@@ -199,7 +196,7 @@ fn is_print(node: &Node) -> bool
     ensures { result ≡ is_text (codes "print") (name_in (Some node.now)) }
 {
     match name_in(node) {
-        Some(name) => is_text(name, b"print".as_slice()),
+        Some(name) => name.is_ascii(b"print".as_slice()),
         None => false,
     }
 }

@@ -1,3 +1,5 @@
+//! A line of a script that runs.
+
 use property_keys::Units;
 
 /// An item after the first, as the tree has it.

@@ -1,3 +1,5 @@
+//! The object of a script that runs.
+
 ghost use Rattle.std.specs.Prelude.{◌≡◌, ◌≤◌, ◌<◌, ◌++◌, [], ℕ, IfOk, OnOk, OnErr, codes, length, slice_index};
 ghost use Rattle.std.specs.Fmt.{decimal};
 ghost use Rattle.property_keys.specs.Wholes.{most_whole};

@@ -1,3 +1,5 @@
+//! The run of a script.
+
 ghost use Rattle.std.specs.Prelude.{◌≡◌, Some};
 ghost use Rattle.hc_outside.specs.Sinks.{Writes};
 ghost use Rattle.script_host.specs.FirstItems.{line_at, lines_below, lines_of};

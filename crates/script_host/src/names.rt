@@ -1,3 +1,5 @@
+//! Names and keys of scripts that run.
+
 ghost use Rattle.std.specs.Prelude.{◌≡◌};
 ghost use Rattle.std.specs.List.{list_all, list_any};
 ghost use Rattle.std.specs.Str.{bytes_eq};
@@ -70,22 +72,7 @@ pub fn is_name(text: &Units) -> bool
 pub fn is_key(text: &Units) -> bool
     ensures { result ≡ is_key text.now }
 {
-    is_word(text) && !is_text(text, b"constructor".as_slice())
-}
-
-/// Whether a text is that of these ASCII letters.
-pub fn is_text(text: &Units, letters: &[u8]) -> bool
-    ensures { result ≡ bytes_eq text.now letters.now }
-{
-    if text.len() != letters.len() {
-        return false;
-    }
-    for i in 0..text.len() {
-        if text.unit(i) != u16::from(letters[i]) {
-            return false;
-        }
-    }
-    true
+    is_word(text) && !text.is_ascii(b"constructor".as_slice())
 }
 
 fn is_word(text: &Units) -> bool
@@ -121,5 +108,5 @@ fn is_barred(text: &Units) -> bool
 fn is_among(text: &Units, words: &[&str]) -> bool
     ensures { result ≡ list_any (λ word. bytes_eq text.now word.now) words.now }
 {
-    words.iter().any(|word| is_text(text, word.as_bytes()))
+    words.iter().any(|word| text.is_ascii(word.as_bytes()))
 }

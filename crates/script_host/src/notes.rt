@@ -1,14 +1,15 @@
+//! The notes on the error output.
+
 ghost use Rattle.std.specs.Prelude.{◌≡◌, ℕ, List, IfOk, OnOk, string_bytes};
 ghost use Rattle.property_keys.specs.Counts.{counted};
 ghost use Rattle.hc_outside.specs.Causes.{HasCause};
 ghost use Rattle.hc_outside.specs.Sinks.{Writes};
-ghost use Rattle.script_rules.specs.Faults.{code_number};
-ghost use Rattle.script_host.specs.Answers.{fault_name, note_of, CannotRead, Faults, Unbuilt};
+ghost use Rattle.script_host.specs.Answers.{note_of, CannotRead, Faults, Unbuilt};
 ghost use Rattle.script_host.specs.Leaves.{change, sink_view, TookFront, memory_note};
 ghost use Rattle.script_host.specs.Settling.{EndsMade, EndsNoted};
 
 use crate::Status;
-use es_source::{FaultCode, Place, SourceFault};
+use es_source::{Place, SourceFault};
 use hc_outside::{Fault, Sink, Text};
 use property_keys::NoMemory;
 use std::alloc::Global;
@@ -35,35 +36,12 @@ pub fn cannot_read(alloc: Global, name: &Text) -> Result<String, NoMemory>
 pub fn faulty(alloc: Global, fault: SourceFault) -> Result<String, NoMemory>
     ensures { IfOk result (λ note. string_bytes note ≡ note_of (Faults fault)) }
 {
-    let SourceFault { code, line, column } = fault;
-    let number = number_of(code);
-    let name = name_of(code);
+    let Place { line, column } = fault.place;
+    let number = fault.code.number();
+    let name = fault.code.name();
     match format!(in alloc; "hcjs: {line}:{column}: fault {number} {name}\n") {
         Ok(note) => Ok(note),
         Err(_) => Err(NoMemory),
-    }
-}
-
-// The number of a code, from 1.
-fn number_of(code: FaultCode) -> u8
-    ensures { result ≡ code_number code }
-{
-    code as u8
-}
-
-fn name_of(code: FaultCode) -> &'static str
-    ensures { result.now ≡ fault_name code }
-{
-    match code {
-        FaultCode::TooLong => "TooLong",
-        FaultCode::NotUtf8 => "NotUtf8",
-        FaultCode::BadToken => "BadToken",
-        FaultCode::Unexpected => "Unexpected",
-        FaultCode::TooDeep => "TooDeep",
-        FaultCode::Duplicate => "Duplicate",
-        FaultCode::Capture => "Capture",
-        FaultCode::BadBinding => "BadBinding",
-        FaultCode::Misplaced => "Misplaced",
     }
 }
 

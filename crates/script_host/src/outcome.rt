@@ -1,3 +1,5 @@
+//! What words and file lead to.
+
 ghost use Rattle.std.specs.Prelude.{◌≡◌, ◌+◌};
 ghost use Rattle.std.specs.Io.KnownBytes.{Keeps};
 ghost use Rattle.property_keys.specs.Counts.{TakesAtMost};

@@ -1,3 +1,5 @@
+//! How a call ends.
+
 /// How a call of the host ends. The exit statuses are 0 to 7, in this order.
 #[derive(Clone, Copy, Debug, PartialEq, Eq)]
 pub enum Status {

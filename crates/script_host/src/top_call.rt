@@ -1,3 +1,5 @@
+//! The top call.
+
 ghost use Rattle.std.specs.Prelude.{◌+◌};
 ghost use Rattle.property_keys.specs.Counts.{TakesAtMost};
 ghost use Rattle.script_host.specs.Answers.{file_of, files_change};

@@ -1,7 +1,7 @@
 //! What of a checked script does not run yet.
 
 ghost use Rattle.std.specs.Prelude.{◌≡◌, ◌<◌, length, slice_get, Some};
-ghost use Rattle.script_host.specs.FirstItems.{earlier, fits, is_before, place_at, script_name, unbuilt, unfit_function, unfit_item};
+ghost use Rattle.script_host.specs.FirstItems.{earlier, fits, place_at, script_name, unbuilt, unfit_function, unfit_item};
 ghost use Rattle.script_host.specs.FirstTrees.{IsThere};
 
 use crate::first_items::{item_of, items_of, line_at, script_name};
@@ -67,24 +67,15 @@ fn unfit_function(script: &Checked) -> Option<Place>
         return None;
     }
     let facts = script.function(declared.at(0).function);
-    Some(Place {
-        line: facts.line,
-        column: facts.column,
-    })
+    Some(facts.place)
 }
 
 fn earlier(one: Option<Place>, other: Option<Place>) -> Option<Place>
     ensures { result ≡ earlier one other }
 {
     match (one, other) {
-        (Some(p), Some(q)) => Some(if is_before(q, p) { q } else { p }),
+        (Some(p), Some(q)) => Some(if q.is_before(p) { q } else { p }),
         (None, q) => q,
         (p, None) => p,
     }
-}
-
-fn is_before(p: Place, q: Place) -> bool
-    ensures { result ≡ is_before p q }
-{
-    p.line < q.line || (p.line == q.line && p.column < q.column)
 }

@@ -1,3 +1,5 @@
+//! The words of the command.
+
 ghost use Rattle.std.specs.Prelude.{◌≡◌};
 ghost use Rattle.std.specs.Option.{option_map};
 ghost use Rattle.script_host.specs.Answers.{begins_with_dash, file_of};

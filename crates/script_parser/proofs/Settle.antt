@@ -1,17 +1,17 @@
 -- What is left alone at a token changes no step.
 use Rattle.std.proofs.Common.{◌≡◌, Bool, true, false, not, ◌&&◌, cond, List, [], ◌∷◌, refl, ap, sym, ◌∙◌}
 use Rattle.script_grammar.specs.declared.kinds.NameRole.TheVariants as role
-use Rattle.script_grammar.specs.declared.kinds.Level.TheVariants as v
+use Rattle.script_grammar.specs.declared.kinds.Level.TheVariants as levels
 use Rattle.script_grammar.specs.declared.sign.Sign.{Sign}
 use Rattle.script_grammar.specs.declared.sign.Sign.TheVariants.{Inserted as put}
 use Rattle.script_grammar.specs.declared.symbol.Tail.{Tail}
-use Rattle.script_grammar.specs.declared.symbol.Tail.TheVariants as q
+use Rattle.script_grammar.specs.declared.symbol.Tail.TheVariants as tails
 use Rattle.script_grammar.specs.declared.symbol.Loose.{Loose}
-use Rattle.script_grammar.specs.declared.symbol.Loose.TheVariants as o
+use Rattle.script_grammar.specs.declared.symbol.Loose.TheVariants as loose_kind
 use Rattle.script_grammar.specs.declared.symbol.Symbol.{Symbol}
-use Rattle.script_grammar.specs.declared.symbol.Symbol.TheVariants as y
+use Rattle.script_grammar.specs.declared.symbol.Symbol.TheVariants as symbols
 use Rattle.script_grammar.specs.Machine.{Outcome, Fail, Next, Algebra, takes, keeps}
-use Rattle.script_grammar.specs.Machine as m
+use Rattle.script_grammar.specs.Machine as grammar_machine
 use Rattle.script_parser.specs.Settling as settling
 
 cond_no : {X : Type 0} (b : Bool) (x other : X) → not b ≡ true → cond b x other ≡ other
@@ -25,29 +25,29 @@ cond_left false false x left other h = absurd (cc (h))
 
 -- a semicolon that is put in belongs to nothing that may go on
 pub no_tail : (n : Tail) → takes n put ≡ false
-no_tail q.Left = refl
-no_tail q.Update = refl
-no_tail (q.Level v.Or n) = refl
-no_tail (q.Level v.And n) = refl
-no_tail (q.Level v.Equal n) = refl
-no_tail (q.Level v.Relation n) = refl
-no_tail (q.Level v.Add n) = refl
-no_tail (q.Level v.Multiply n) = refl
-no_tail (q.Short n) = refl
-no_tail (q.Conditional n) = refl
-no_tail (q.Assign n) = refl
-no_tail (q.Expression n) = refl
+no_tail tails.Left = refl
+no_tail tails.Update = refl
+no_tail (tails.Level levels.Or n) = refl
+no_tail (tails.Level levels.And n) = refl
+no_tail (tails.Level levels.Equal n) = refl
+no_tail (tails.Level levels.Relation n) = refl
+no_tail (tails.Level levels.Add n) = refl
+no_tail (tails.Level levels.Multiply n) = refl
+no_tail (tails.Short n) = refl
+no_tail (tails.Conditional n) = refl
+no_tail (tails.Assign n) = refl
+no_tail (tails.Expression n) = refl
 
 pub no_keep : (n : Loose) → keeps n put ≡ false
-no_keep (o.Items h) = refl
-no_keep (o.Else i) = refl
-no_keep (o.Finally i) = refl
-no_keep (o.Callee i) = refl
-no_keep o.Target = refl
-no_keep (o.Binding c h i) = refl
-no_keep (o.Property role.Plain i) = refl
-no_keep (o.Property role.Get i) = refl
-no_keep (o.Property role.Set i) = refl
+no_keep (loose_kind.Items h) = refl
+no_keep (loose_kind.Else i) = refl
+no_keep (loose_kind.Finally i) = refl
+no_keep (loose_kind.Callee i) = refl
+no_keep loose_kind.Target = refl
+no_keep (loose_kind.Binding c h i) = refl
+no_keep (loose_kind.Property role.Plain i) = refl
+no_keep (loose_kind.Property role.Get i) = refl
+no_keep (loose_kind.Property role.Set i) = refl
 
 module _ (S : Type 0) (alg : Algebra S) where
   abbrev loose : Symbol → S → Sign → Bool
@@ -60,27 +60,27 @@ module _ (S : Type 0) (alg : Algebra S) where
   settled γ s x = settling.settled S alg γ s x
 
   abbrev step : List Symbol → S → Sign → Outcome S
-  step γ s x = m.step S alg γ s x
+  step γ s x = grammar_machine.step S alg γ s x
 
   pub loose_step : (z : Symbol) (γ : List Symbol) (s : S) (x : Sign) → loose z s x ≡ true → step (z ∷ γ) s x ≡ step γ (drops z s) x
-  loose_step (y.Tail n d) γ s x h = cond_no (takes n x) (m.continue S alg n d γ s x) (step γ s x) h
-  loose_step (y.Loose n d) γ s x h = cond_left (keeps n x) (m.may_leave S alg n s) (m.go_on S alg n d γ s x) (step γ (m.leave S alg n s) x) Fail h
-  loose_step (y.Do f) γ s x h = refl
-  loose_step (y.Part n d) γ s x h = absurd (cc (h))
-  loose_step (y.Stage n d) γ s x h = absurd (cc (h))
-  loose_step (y.Take n d) γ s x h = absurd (cc (h))
+  loose_step (symbols.Tail n d) γ s x h = cond_no (takes n x) (grammar_machine.continue S alg n d γ s x) (step γ s x) h
+  loose_step (symbols.Loose n d) γ s x h = cond_left (keeps n x) (grammar_machine.may_leave S alg n s) (grammar_machine.go_on S alg n d γ s x) (step γ (grammar_machine.leave S alg n s) x) Fail h
+  loose_step (symbols.Do f) γ s x h = refl
+  loose_step (symbols.Part n d) γ s x h = absurd (cc (h))
+  loose_step (symbols.Stage n d) γ s x h = absurd (cc (h))
+  loose_step (symbols.Take n d) γ s x h = absurd (cc (h))
 
   second : (b c : Bool) → (not b && c) ≡ true → c ≡ true
   second true c h = absurd (cc (h))
   second false c h = h
 
   pub loose_put : (z : Symbol) (s : S) (x : Sign) → loose z s x ≡ true → loose z s put ≡ true
-  loose_put (y.Tail n d) s x h = ap not (no_tail n)
-  loose_put (y.Loose n d) s x h = ap (λ (b : Bool). not b && m.may_leave S alg n s) (no_keep n) ∙ second (keeps n x) (m.may_leave S alg n s) h
-  loose_put (y.Do f) s x h = refl
-  loose_put (y.Part n d) s x h = absurd (cc (h))
-  loose_put (y.Stage n d) s x h = absurd (cc (h))
-  loose_put (y.Take n d) s x h = absurd (cc (h))
+  loose_put (symbols.Tail n d) s x h = ap not (no_tail n)
+  loose_put (symbols.Loose n d) s x h = ap (λ (b : Bool). not b && grammar_machine.may_leave S alg n s) (no_keep n) ∙ second (keeps n x) (grammar_machine.may_leave S alg n s) h
+  loose_put (symbols.Do f) s x h = refl
+  loose_put (symbols.Part n d) s x h = absurd (cc (h))
+  loose_put (symbols.Stage n d) s x h = absurd (cc (h))
+  loose_put (symbols.Take n d) s x h = absurd (cc (h))
 
   -- by cases on the test, with what it says
   pub settled_step : (γ : List Symbol) (s : S) (x : Sign) → step (settled γ s x).0 (settled γ s x).1 x ≡ step γ s x

@@ -7,11 +7,11 @@ use Rattle.es_source.specs.declared.token.Token.{Token}
 use Rattle.es_source.specs.Reading.{Reading as Source, fault_at}
 use Rattle.es_source.specs.declared.stop.ReadStop.TheVariants.{Fault}
 use Rattle.script_grammar.specs.declared.leaf.Leaf.{Leaf}
-use Rattle.script_grammar.specs.declared.node.Node.{Node}
+use Rattle.script_grammar.specs.declared.node.ParseNode.{ParseNode}
 use Rattle.script_grammar.specs.declared.symbol.Symbol.{Symbol}
-use Rattle.script_grammar.specs.Tree.{Tree}
-use Rattle.script_grammar.specs.Scripts.{Parts, Stands, leaf_of}
-use Rattle.script_grammar.specs.Completed.{Answer, Script, Unexpected, TooDeep, Reads, Derives, fault_of, place_by}
+use Rattle.script_grammar.specs.Tree.{ParseTree}
+use Rattle.script_grammar.specs.Scripts.{Parts, HasTree, leaf_of}
+use Rattle.script_grammar.specs.Completed.{ParseAnswer, Script, Unexpected, TooDeep, ReadsAs, Derives, fault_of, place_by}
 use Rattle.script_grammar.specs.Progress.{Reached, start, begun}
 use Rattle.script_grammar.proofs.Reached.{reached_start}
 use Rattle.script_grammar.proofs.Answer.{one_answer}
@@ -20,11 +20,11 @@ use Rattle.script_parser.specs.declared.parser.reading.Reading.{Reading}
 use Rattle.script_parser.specs.declared.parser.reading.Reading.TheVariants.{Taken, Refused, Deep}
 use Rattle.script_parser.specs.State.{State, stack, state, act_on}
 use Rattle.script_parser.specs.Progress.{Standing, Stood, ReadsOne, EndsWith, Behind, Onward, root_of}
-use Rattle.script_parser.specs.Contract.{Gives, Parses}
-use Rattle.script_grammar.specs.declared.act.Act.TheVariants as does
+use Rattle.script_parser.specs.Contract.{GivesAnswer, Parses}
+use Rattle.script_grammar.specs.declared.act.Act.TheVariants as act_kinds
 use Rattle.script_grammar.specs.declared.labels.Atom.TheVariants as atom
 
-pub started : (p : Parser) → stack p ≡ start → state p ≡ act_on (does.Atom atom.Nothing) [] [] → Standing [] p
+pub started : (p : Parser) → stack p ≡ start → state p ≡ act_on (act_kinds.Atom atom.Nothing) [] [] → Standing [] p
 started p e f = (begun, subst (λ (γ : List Symbol). Reached [] γ begun) (sym e) reached_start, subst (λ (s : State). Stood s begun) (sym f) (refl, tt))
 
 -- something is expected
@@ -65,34 +65,34 @@ mapped_more ts i t leaves more leaf e f g h = h ∙ (ap (λ (l : List Leaf). l +
 pub behind_start : (p : Parser) (ts : List Token) → Standing [] p → Behind p ts 0
 behind_start p ts st = ([], st, λ a h. h)
 
-reads_along : (done : _) (i : ℕ) (xs ys : List Token) (a : Answer) → xs ≡ ys → Reads done i ys a → Reads done i xs a
-reads_along done i xs ys a e h = subst (λ (ts : List Token). Reads done i ts a) (sym e) h
+reads_along : (done : _) (i : ℕ) (xs ys : List Token) (a : ParseAnswer) → xs ≡ ys → ReadsAs done i ys a → ReadsAs done i xs a
+reads_along done i xs ys a e h = subst (λ (ts : List Token). ReadsAs done i ts a) (sym e) h
 
 pub behind_next : (p q : Parser) (ts : List Token) (i : ℕ) (t : Token) (v : Reading) → Behind p ts i → slice_get ts i ≡ Some t → v ≡ Taken → ReadsOne p q i t v → Behind q ts (i + 1)
 behind_next p q ts i t v b e f r =
     let on : Onward b.0 q i t = subst (λ (v : Reading). ReadsOne p q i t v) f r b.0 b.1 in
     rw add-one (on.0, on.1, λ a h. b.2 a (reads_along b.0 i (drop i ts) (t ∷ drop (suc i) ts) a (at_place ts i t e) (on.2 (drop (suc i) ts) a h)))
 
-refused_at : (p q : Parser) (ts : List Token) (i : ℕ) (t : Token) (v : Reading) → Behind p ts i → slice_get ts i ≡ Some t → v ≡ Refused → ReadsOne p q i t v → Reads [] 0 ts (Unexpected i)
+refused_at : (p q : Parser) (ts : List Token) (i : ℕ) (t : Token) (v : Reading) → Behind p ts i → slice_get ts i ≡ Some t → v ≡ Refused → ReadsOne p q i t v → ReadsAs [] 0 ts (Unexpected i)
 refused_at p q ts i t v b e f r =
     let h : ReadsOne p q i t Refused = subst (λ (v : Reading). ReadsOne p q i t v) f r in
     b.2 (Unexpected i) (reads_along b.0 i (drop i ts) (t ∷ drop (suc i) ts) (Unexpected i) (at_place ts i t e) (h b.0 b.1 (drop (suc i) ts)))
 
-deep_at : (p q : Parser) (ts : List Token) (i : ℕ) (t : Token) (v : Reading) → Behind p ts i → slice_get ts i ≡ Some t → v ≡ Deep → ReadsOne p q i t v → Reads [] 0 ts (TooDeep i)
+deep_at : (p q : Parser) (ts : List Token) (i : ℕ) (t : Token) (v : Reading) → Behind p ts i → slice_get ts i ≡ Some t → v ≡ Deep → ReadsOne p q i t v → ReadsAs [] 0 ts (TooDeep i)
 deep_at p q ts i t v b e f r =
     let h : ReadsOne p q i t Deep = subst (λ (v : Reading). ReadsOne p q i t v) f r in
     b.2 (TooDeep i) (reads_along b.0 i (drop i ts) (t ∷ drop (suc i) ts) (TooDeep i) (at_place ts i t e) (h b.0 b.1 (drop (suc i) ts)))
 
-cut_at : (p q : Parser) (ts : List Token) (i : ℕ) (v : Option ℕ) → Behind p ts i → length ts ≤ i → v ≡ None → EndsWith p q v → Reads [] 0 ts (Unexpected i)
+cut_at : (p q : Parser) (ts : List Token) (i : ℕ) (v : Option ℕ) → Behind p ts i → length ts ≤ i → v ≡ None → EndsWith p q v → ReadsAs [] 0 ts (Unexpected i)
 cut_at p q ts i v b l f r =
     let h : EndsWith p q None = subst (λ (v : Option ℕ). EndsWith p q v) f r in
     b.2 (Unexpected i) (reads_along b.0 i (drop i ts) [] (Unexpected i) (none_behind ts i l) (h b.0 b.1 i))
 
 -- a fault that the grammar has is its only answer
-fault_parses : (r : Source) (a : Answer) (f : SourceFault) → Reads [] 0 r.tokens a → fault_of r a ≡ Some f → Parses r (Err (Fault f))
-fault_parses r a f h e = ((a, h, e), λ b k. subst (λ (c : Answer). Gives r c (Err (Fault f))) (one_answer h k) (gives a e))
+fault_parses : (r : Source) (a : ParseAnswer) (f : SourceFault) → ReadsAs [] 0 r.tokens a → fault_of r a ≡ Some f → Parses r (Err (Fault f))
+fault_parses r a f h e = ((a, h, e), λ b k. subst (λ (c : ParseAnswer). GivesAnswer r c (Err (Fault f))) (one_answer h k) (gives a e))
   where
-    gives : (a : Answer) → fault_of r a ≡ Some f → Gives r a (Err (Fault f))
+    gives : (a : ParseAnswer) → fault_of r a ≡ Some f → GivesAnswer r a (Err (Fault f))
     gives (Script full x) e = e
     gives (Unexpected i) e = e
     gives (TooDeep i) e = e
@@ -117,7 +117,7 @@ parses_cut p q r i v f b l g h k =
     fault_parses r (Unexpected i) f (cut_at p q r.tokens i v b l g h)
     (ap (λ (o : Option Token). Some (fault_at fault_code.Unexpected (place_by r.ending o))) (none_at r.tokens i l) ∙ ap (λ (f : SourceFault). Some f) (sym k))
 
-whole_at : (p q : Parser) (ts : List Token) (i root : ℕ) (v : Option ℕ) → Behind p ts i → length ts ≤ i → v ≡ Some root → EndsWith p q v → (x : Tree) × Stands q.nodes.items root x × Derives ts x
+whole_at : (p q : Parser) (ts : List Token) (i root : ℕ) (v : Option ℕ) → Behind p ts i → length ts ≤ i → v ≡ Some root → EndsWith p q v → (x : ParseTree) × HasTree q.nodes.items root x × Derives ts x
 whole_at p q ts i root v b l f r =
     let h : EndsWith p q (Some root) = subst (λ (v : Option ℕ). EndsWith p q v) f r in
     let w = h b.0 b.1 in
@@ -127,5 +127,5 @@ pub parses_whole : (p q : Parser) (r : Source) (i root : ℕ) (v : Option ℕ) (
     → s.leaves ≡ map leaf_of r.tokens → s.nodes ≡ q.nodes.items → s.root ≡ root → Parses r (Ok s)
 parses_whole p q r i root v s b l f h e g k =
     let w = whole_at p q r.tokens i root v b l f h in
-    let st : Stands s.nodes s.root w.0 = subst (λ (ns : List Node). Stands ns s.root w.0) (sym g) (subst (λ (n : ℕ). Stands q.nodes.items n w.0) (sym k) w.1) in
-    ((e, (w.0, st, w.2)), λ a j. subst (λ (a : Answer). Gives r a (Ok s)) (one_answer w.2.1 j) st)
+    let st : HasTree s.nodes s.root w.0 = subst (λ (ns : List ParseNode). HasTree ns s.root w.0) (sym g) (subst (λ (n : ℕ). HasTree q.nodes.items n w.0) (sym k) w.1) in
+    ((e, (w.0, st, w.2)), λ a j. subst (λ (a : ParseAnswer). GivesAnswer r a (Ok s)) (one_answer w.2.1 j) st)

@@ -2,22 +2,22 @@
 use Rattle.std.specs.Prelude.{◌≡◌, ◌&&◌, not, Bool, true, false, cond, List, [], ◌∷◌}
 use Rattle.script_grammar.specs.declared.sign.Sign.{Sign}
 use Rattle.script_grammar.specs.declared.symbol.Symbol.{Symbol}
-use Rattle.script_grammar.specs.declared.symbol.Symbol.TheVariants as y
+use Rattle.script_grammar.specs.declared.symbol.Symbol.TheVariants as symbols
 use Rattle.script_grammar.specs.Machine.{Algebra, takes, keeps}
-use Rattle.script_grammar.specs.Machine as m
+use Rattle.script_grammar.specs.Machine as grammar_machine
 
 module _ (S : Type 0) (alg : Algebra S) where
   -- The symbol is left alone at this token.
   abbrev pub loose : Symbol → S → Sign → Bool
-  loose (y.Tail q d) s x = not (takes q x)
-  loose (y.Loose q d) s x = not (keeps q x) && m.may_leave S alg q s
-  loose (y.Do f) s x = true
+  loose (symbols.Tail q d) s x = not (takes q x)
+  loose (symbols.Loose q d) s x = not (keeps q x) && grammar_machine.may_leave S alg q s
+  loose (symbols.Do f) s x = true
   loose _ s x = false
 
   -- The work of a symbol that is left alone.
   abbrev pub drops : Symbol → S → S
-  drops (y.Loose q d) s = m.leave S alg q s
-  drops (y.Do f) s = alg.act f s
+  drops (symbols.Loose q d) s = grammar_machine.leave S alg q s
+  drops (symbols.Do f) s = alg.act f s
   drops _ s = s
 
   -- All that is left alone taken off.

@@ -2,9 +2,9 @@
 use Rattle.std.specs.Prelude.{◌≡◌, ℕ, Bool, true, false, List, [], ◌∷◌, ◌++◌, Option, Some, None, Result, Ok, Err, length, reverse, slice_get, not}
 use Rattle.property_keys.specs.declared.faults.NoMemory.{NoMemory}
 use Rattle.script_grammar.specs.declared.act.Act.{Act}
-use Rattle.script_grammar.specs.declared.act.Act.TheVariants as u
-use Rattle.script_grammar.specs.declared.node.Node.{Node}
-use Rattle.script_grammar.specs.declared.node.Node.TheVariants as node
+use Rattle.script_grammar.specs.declared.act.Act.TheVariants as act_kinds
+use Rattle.script_grammar.specs.declared.node.ParseNode.{ParseNode}
+use Rattle.script_grammar.specs.declared.node.ParseNode.TheVariants as node
 use Rattle.script_grammar.specs.declared.symbol.Symbol.{Symbol}
 use Rattle.script_grammar.specs.Tree.{names, accesses, indexes, is_and_or}
 use Rattle.script_grammar.specs.Machine.{Algebra, Outcome, Fail, Next}
@@ -12,29 +12,29 @@ use Rattle.script_parser.specs.declared.parser.Parser.{Parser}
 
 -- Nodes, and the numbers of those on the stack, the newest first.
 abbrev pub State : Type 0
-State = List Node × List ℕ
+State = List ParseNode × List ℕ
 
 -- One node more, on the stack.
-abbrev pub built : Node → List Node → List ℕ → State
+abbrev pub built : ParseNode → List ParseNode → List ℕ → State
 built n ns is = (ns ++ (n ∷ []), length ns ∷ is)
 
 -- The newest values made one; where there are too few, none is left.
-abbrev pub act_on : Act → List Node → List ℕ → State
-act_on (u.Atom f) ns is = built (node.Atom f) ns is
-act_on (u.Wrap f) ns (i ∷ is) = built (node.Wrap f i) ns is
-act_on (u.Pair f) ns (j ∷ i ∷ is) = built (node.Pair f i j) ns is
-act_on (u.Triple f) ns (k ∷ j ∷ i ∷ is) = built (node.Triple f i j k) ns is
-act_on (u.Quad f) ns (l ∷ k ∷ j ∷ i ∷ is) = built (node.Quad f i j k l) ns is
+abbrev pub act_on : Act → List ParseNode → List ℕ → State
+act_on (act_kinds.Atom f) ns is = built (node.Atom f) ns is
+act_on (act_kinds.Wrap f) ns (i ∷ is) = built (node.Wrap f i) ns is
+act_on (act_kinds.Pair f) ns (j ∷ i ∷ is) = built (node.Pair f i j) ns is
+act_on (act_kinds.Triple f) ns (k ∷ j ∷ i ∷ is) = built (node.Triple f i j k) ns is
+act_on (act_kinds.Quad f) ns (l ∷ k ∷ j ∷ i ∷ is) = built (node.Quad f i j k l) ns is
 act_on _ ns is = (ns, [])
 
 -- A node is a target where its tree is, and may stand beside `??` where its tree may.
-abbrev pub is_target_node : Option Node → Bool
+abbrev pub is_target_node : Option ParseNode → Bool
 is_target_node (Some (node.Atom f)) = names f
 is_target_node (Some (node.Wrap f i)) = accesses f
 is_target_node (Some (node.Pair f i j)) = indexes f
 is_target_node _ = false
 
-abbrev pub is_plain_node : Option Node → Bool
+abbrev pub is_plain_node : Option ParseNode → Bool
 is_plain_node (Some (node.Pair f i j)) = not (is_and_or f)
 is_plain_node (Some n) = true
 is_plain_node None = false
@@ -43,12 +43,12 @@ abbrev pub head_of : List ℕ → Option ℕ
 head_of [] = None
 head_of (i ∷ is) = Some i
 
-abbrev pub node_at : List Node → Option ℕ → Option Node
+abbrev pub node_at : List ParseNode → Option ℕ → Option ParseNode
 node_at ns None = None
 node_at ns (Some i) = slice_get ns i
 
 -- The node of the newest value.
-abbrev pub newest : List Node → List ℕ → Option Node
+abbrev pub newest : List ParseNode → List ℕ → Option ParseNode
 newest ns is = node_at ns (head_of is)
 
 abbrev pub numbers : Algebra State

@@ -1,7 +1,7 @@
 //! What each token is to the grammar (ECMA-262, 12.7 and 12.8).
 
 ghost use Rattle.std.specs.Prelude.{◌≡◌, bytes_eq, map};
-ghost use Rattle.script_grammar.specs.Kinds.{kind_of, kind_in, words, punctuators};
+ghost use Rattle.script_grammar.specs.Kinds.{kind_of, kind_in, kinds_of_words, punctuators};
 
 use es_source::TokenKind;
 use es_tree::{AssignOperator, BinaryOperator, ShortOperator};
@@ -128,7 +128,7 @@ fn kind_in(table: &[(&'static [u8], Kind)], units: &Units) -> Option<Kind>
 }
 
 fn word_kind(units: &Units) -> Option<Kind>
-    ensures { result ≡ kind_in words units.now }
+    ensures { result ≡ kind_in kinds_of_words units.now }
 {
     kind_in(WORDS.as_slice(), units)
 }

@@ -4,33 +4,19 @@ ghost use Rattle.std.specs.Prelude.{◌≡◌, ◌++◌, ◌∷◌, [], IfOk, On
 ghost use Rattle.script_grammar.specs.Scripts.{leaf_of, leaf_kind};
 
 use es_source::{Token, TokenKind};
-use property_keys::{KeyFault, NoMemory, Units};
+use property_keys::NoMemory;
 use script_grammar::{Leaf, LeafKind};
 use script_syntax::Tokens;
 use std::alloc::Global;
-
-/// A copy of a text.
-fn copied(alloc: Global, units: &Units) -> Result<Units, NoMemory>
-    ensures { IfOk result (λ copy. copy ≡ units.now) }
-{
-    let mut copy = Units::new(alloc);
-    for i in 0..units.len() {
-        match copy.push(units.unit(i)) {
-            Ok(()) => {}
-            Err(KeyFault::TooLong | KeyFault::NoMemory) => return Err(NoMemory),
-        }
-    }
-    Ok(copy)
-}
 
 fn leaf_kind(alloc: Global, kind: &TokenKind) -> Result<LeafKind, NoMemory>
     ensures { IfOk result (λ leaf. leaf ≡ leaf_kind kind.now) }
 {
     match kind {
-        TokenKind::Name(units) => Ok(LeafKind::Name(copied(alloc, units)?)),
+        TokenKind::Name(units) => Ok(LeafKind::Name(units.copied(alloc)?)),
         TokenKind::Number(value) => Ok(LeafKind::Number(*value)),
         TokenKind::Text { units, strict } => Ok(LeafKind::Text {
-            units: copied(alloc, units)?,
+            units: units.copied(alloc)?,
             strict: *strict,
         }),
         TokenKind::Punctuator(_) => Ok(LeafKind::Punctuator),
@@ -42,8 +28,7 @@ fn leaf_of(alloc: Global, token: &Token) -> Result<Leaf, NoMemory>
 {
     Ok(Leaf {
         kind: leaf_kind(alloc, &token.kind)?,
-        line: token.line,
-        column: token.column,
+        place: token.place,
     })
 }
 

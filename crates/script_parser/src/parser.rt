@@ -4,7 +4,7 @@ ghost use Rattle.std.specs.Prelude.{◌≡◌, [], IfOk};
 ghost use Rattle.script_parser.specs.Progress.{Standing};
 
 use property_keys::NoMemory;
-use script_grammar::{Loose, Node, Symbol};
+use script_grammar::{Loose, ParseNode, Symbol};
 use std::alloc::Global;
 
 mod expressions;
@@ -26,7 +26,7 @@ pub use reading::Reading;
 pub struct Parser {
     symbols: Vec<Symbol>,
     pending: Vec<Symbol>,
-    nodes: Vec<Node>,
+    nodes: Vec<ParseNode>,
     values: Vec<u32>,
 }
 
@@ -46,7 +46,7 @@ impl Parser {
     }
 
     /// The nodes that were made.
-    pub fn into_nodes(self) -> Vec<Node>
+    pub fn into_nodes(self) -> Vec<ParseNode>
         ensures { result ≡ self.nodes }
     {
         let Parser {

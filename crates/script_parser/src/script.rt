@@ -13,12 +13,11 @@ use std::alloc::Global;
 
 /// A fault at a token.
 fn fault_at(code: FaultCode, token: &Token) -> SourceFault
-    ensures { result ≡ record { code = code; line = token.now.line; column = token.now.column } }
+    ensures { result ≡ record { code = code; place = token.now.place } }
 {
     SourceFault {
         code,
-        line: token.line,
-        column: token.column,
+        place: token.place,
     }
 }
 
@@ -26,11 +25,9 @@ fn fault_at(code: FaultCode, token: &Token) -> SourceFault
 fn fault_at_end(tokens: &Tokens) -> SourceFault
     ensures { result ≡ fault_at FaultCode.Unexpected tokens.now.ending }
 {
-    let (line, column) = tokens.end();
     SourceFault {
         code: FaultCode::Unexpected,
-        line,
-        column,
+        place: tokens.end(),
     }
 }
 

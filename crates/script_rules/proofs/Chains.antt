@@ -4,7 +4,7 @@ use Rattle.std.proofs.Math.ListN.{get_or-append}
 use Rattle.std.proofs.Math.Seq.{get_or-append_seam}
 use Rattle.script_rules.specs.declared.resolved.Resolved.{Resolved}
 use Rattle.script_rules.specs.declared.scope.Scope.{Scope}
-use Rattle.script_rules.specs.declared.scope_entry.Entry.{Entry}
+use Rattle.script_rules.specs.declared.scope_entry.ScopeEntry.{ScopeEntry}
 use Rattle.script_rules.specs.declared.scope_entry.ScopeId.{ScopeId}
 use Rattle.script_rules.specs.Scopes.{first_place, in_force, in_force_after, is_in_function, is_of_function, resolved, resolved_from, resolved_by}
 use Rattle.script_rules.specs.Bounds.{place_from}
@@ -19,22 +19,22 @@ pub from_kept : (done more : List (List Scope)) (outer : Option ScopeId) → IsK
 from_kept done more None k = refl
 from_kept done more (Some id) k = chain_kept done more id.0 k
 
-rest : (done : List (List Scope)) (es : List Entry) → (more : List (List Scope)) × (chains_after done es ≡ done ++ more) × (length more ≡ length es)
+rest : (done : List (List Scope)) (es : List ScopeEntry) → (more : List (List Scope)) × (chains_after done es ≡ done ++ more) × (length more ≡ length es)
 rest done [] = ([], sym (append-nil done), refl)
 rest done (e ∷ es) =
     let r = rest (done ++ chain_of done e ∷ []) es in
     (chain_of done e ∷ r.0, r.1 ∙ append_assoc done (chain_of done e ∷ []) r.0, ap suc r.2)
 
-pub length-chains : (es : List Entry) → length (chains_after [] es) ≡ length es
+pub length-chains : (es : List ScopeEntry) → length (chains_after [] es) ≡ length es
 length-chains es = let r = rest [] es in ap length r.1 ∙ r.2
 
 -- ---- an entry more
 
-pub chains_more : (done : List (List Scope)) (es : List Entry) (e : Entry) → chains_after done (es ++ e ∷ []) ≡ chains_after done es ++ chain_of (chains_after done es) e ∷ []
+pub chains_more : (done : List (List Scope)) (es : List ScopeEntry) (e : ScopeEntry) → chains_after done (es ++ e ∷ []) ≡ chains_after done es ++ chain_of (chains_after done es) e ∷ []
 chains_more done [] e = refl
 chains_more done (x ∷ es) e = chains_more (done ++ chain_of done x ∷ []) es e
 
-pub fits_more : (done : List (List Scope)) (es : List Entry) (e : Entry) → AllFit done es → Fits (chains_after done es) e → AllFit done (es ++ e ∷ [])
+pub fits_more : (done : List (List Scope)) (es : List ScopeEntry) (e : ScopeEntry) → AllFit done es → Fits (chains_after done es) e → AllFit done (es ++ e ∷ [])
 fits_more done [] e all f = (f, tt)
 fits_more done (x ∷ es) e all f = (all.0, fits_more (done ++ chain_of done x ∷ []) es e all.1 f)
 
@@ -44,7 +44,7 @@ below : (done : List (List Scope)) (outer : Option ScopeId) → IsKnown done out
 below done None k = tt
 below done (Some id) k = k
 
-entry_here : (done : List (List Scope)) (es : List Entry) (e : Entry) → Fits done e → IsEntry (chains_after (done ++ chain_of done e ∷ []) es) (length done) e
+entry_here : (done : List (List Scope)) (es : List ScopeEntry) (e : ScopeEntry) → Fits done e → IsEntry (chains_after (done ++ chain_of done e ∷ []) es) (length done) e
 entry_here done es e f =
     let here = done ++ chain_of done e ∷ [] in
     let r = rest here es in
@@ -57,25 +57,25 @@ entry_here done es e f =
       counts = rw outer f.counts;
     }
 
-same_entry : (x e : Entry) → Some x ≡ Some e → x ≡ e
+same_entry : (x e : ScopeEntry) → Some x ≡ Some e → x ≡ e
 same_entry x e p = cc
 
 further : (done : List (List Scope)) (c : List Scope) (k : ℕ) → length (done ++ c ∷ []) + k ≡ length done + suc k
 further done c k = omega (arith, length-append done (c ∷ []))
 
-entry_in : (es : List Entry) (done : List (List Scope)) (k : ℕ) (e : Entry) → AllFit done es → slice_get es k ≡ Some e → IsEntry (chains_after done es) (length done + k) e
+entry_in : (es : List ScopeEntry) (done : List (List Scope)) (k : ℕ) (e : ScopeEntry) → AllFit done es → slice_get es k ≡ Some e → IsEntry (chains_after done es) (length done + k) e
 entry_in [] done k e all at = absurd (cc at)
 entry_in (x ∷ es) done zero e all at =
-    subst (λ (y : Entry). IsEntry (chains_after done (x ∷ es)) (length done + 0) y) (same_entry x e at) (rw (add-zero (length done)) (entry_here done es x all.0))
+    subst (λ (y : ScopeEntry). IsEntry (chains_after done (x ∷ es)) (length done + 0) y) (same_entry x e at) (rw (add-zero (length done)) (entry_here done es x all.0))
 entry_in (x ∷ es) done (suc k) e all at =
     subst (λ (n : ℕ). IsEntry (chains_after done (x ∷ es)) n e) (further done (chain_of done x) k) (entry_in es (done ++ chain_of done x ∷ []) k e all.1 at)
 
-pub entry_at : (es : List Entry) (n : ℕ) (e : Entry) → AllFit [] es → slice_get es n ≡ Some e → IsEntry (chains_after [] es) n e
+pub entry_at : (es : List ScopeEntry) (n : ℕ) (e : ScopeEntry) → AllFit [] es → slice_get es n ≡ Some e → IsEntry (chains_after [] es) n e
 entry_at es n e all at = subst (λ (m : ℕ). IsEntry (chains_after [] es) m e) (zero-add n) (entry_in es [] n e all at)
 
 -- ---- a scope is entered
 
-pub fits_entered : (chains : List (List Scope)) (outer : Option ScopeId) (s : Scope) (outside : ℕ) (e : Entry) → IsKnown chains outer
+pub fits_entered : (chains : List (List Scope)) (outer : Option ScopeId) (s : Scope) (outside : ℕ) (e : ScopeEntry) → IsKnown chains outer
     → outside ≡ in_force (chain_from chains outer) → HoldsScope outside outer s e → Fits chains e
 fits_entered chains outer s outside e known o h = record {
   outer = rw h.outer known;
@@ -86,11 +86,11 @@ fits_entered chains outer s outside e known o h = record {
   };
 }
 
-pub enters : (chains : List (List Scope)) (outer : Option ScopeId) (s : Scope) (outside : ℕ) (e : Entry) → HoldsScope outside outer s e
+pub enters : (chains : List (List Scope)) (outer : Option ScopeId) (s : Scope) (outside : ℕ) (e : ScopeEntry) → HoldsScope outside outer s e
     → chain_of chains e ≡ s ∷ chain_from chains outer
 enters chains outer s outside e h = rw (h.scope, h.outer) refl
 
-module _ (es new : List Entry) (e : Entry) (now : List (List Scope)) (outer : Option ScopeId) (s : Scope) (outside : ℕ) (is : chains_after [] es ≡ now) (pushed : new ≡ es ++ e ∷ [])
+module _ (es new : List ScopeEntry) (e : ScopeEntry) (now : List (List Scope)) (outer : Option ScopeId) (s : Scope) (outside : ℕ) (is : chains_after [] es ≡ now) (pushed : new ≡ es ++ e ∷ [])
     (holds : HoldsScope outside outer s e) where
   pub entered_fits : AllFit [] es → IsKnown now outer → outside ≡ in_force (chain_from now outer) → AllFit [] new
   entered_fits all known o = rw pushed (fits_more [] es e all (rw is (fits_entered now outer s outside e known o holds)))
@@ -119,7 +119,7 @@ pub nearer : (n : ℕ) (outer : Option ScopeId) → IsBelow n outer → outwards
 nearer n None b = omega arith
 nearer n (Some id) b = omega arith
 
-module _ (chains : List (List Scope)) (scope n : ℕ) (units : List ℕ) (away : Bool) (e : Entry) (said : Option Resolved) (at : IsEntry chains n e)
+module _ (chains : List (List Scope)) (scope n : ℕ) (units : List ℕ) (away : Bool) (e : ScopeEntry) (said : Option Resolved) (at : IsEntry chains n e)
     (says : Says (resolved_by e.scope away units (place_from e.first e.scope.names units)) said) where
   pub said_here : resolved_from away (chain_at chains n) units ≡ unwrap_or said (resolved_from (away || is_of_function e.scope.owner) (chain_from chains e.outer) units)
   said_here =
@@ -127,7 +127,7 @@ module _ (chains : List (List Scope)) (scope n : ℕ) (units : List ℕ) (away :
       ∙ ap (λ p. resolved_by e.scope away units (place_from p e.scope.names units) (resolved_from (away || is_of_function e.scope.owner) (chain_from chains e.outer) units)) (sym at.counts.first)
       ∙ says (resolved_from (away || is_of_function e.scope.owner) (chain_from chains e.outer) units)
 
-pub goes_outwards : (chains : List (List Scope)) (scope n : ℕ) (units : List ℕ) (away : Bool) (e : Entry) → IsEntry chains n e
+pub goes_outwards : (chains : List (List Scope)) (scope n : ℕ) (units : List ℕ) (away : Bool) (e : ScopeEntry) → IsEntry chains n e
     → Says (resolved_by e.scope away units (place_from e.first e.scope.names units)) None → n < length chains
     → resolved_from away (chain_at chains n) units ≡ resolved (chain_at chains scope) units → GoesOutwards chains scope units (away || is_of_function e.scope.owner) e.outer
 goes_outwards chains scope n units away e at says lt g = record {
@@ -135,12 +135,12 @@ goes_outwards chains scope n units away e at says lt g = record {
   rest = sym (said_here chains scope n units away e None at says) ∙ g;
 }
 
-pub looks_outwards : (chains : List (List Scope)) (scope n : ℕ) (e : Entry) → IsEntry chains n e → is_of_function e.scope.owner ≡ false → n < length chains
+pub looks_outwards : (chains : List (List Scope)) (scope n : ℕ) (e : ScopeEntry) → IsEntry chains n e → is_of_function e.scope.owner ≡ false → n < length chains
     → is_in_function (chain_at chains n) ≡ is_in_function (chain_at chains scope) → LooksOutwards chains scope e.outer
 looks_outwards chains scope n e at f lt g = record {
   known = known_outer chains n e.outer lt at.outer;
   rest = sym (ap is_in_function at.chain ∙ rw f refl) ∙ g;
 }
 
-pub looks_here : (chains : List (List Scope)) (n : ℕ) (e : Entry) → IsEntry chains n e → is_of_function e.scope.owner ≡ true → is_in_function (chain_at chains n) ≡ true
+pub looks_here : (chains : List (List Scope)) (n : ℕ) (e : ScopeEntry) → IsEntry chains n e → is_of_function e.scope.owner ≡ true → is_in_function (chain_at chains n) ≡ true
 looks_here chains n e at f = ap is_in_function at.chain ∙ rw f refl

@@ -5,7 +5,8 @@ use Rattle.std.proofs.lemmas.Bool.Decides.{nat_tests}
 use Rattle.es_source.specs.declared.faults.FaultCode.{FaultCode}
 use Rattle.es_source.specs.declared.faults.FaultCode.TheVariants as code
 use Rattle.es_source.specs.declared.faults.SourceFault.{SourceFault}
-use Rattle.script_rules.specs.Faults.{code_number, is_before, least, lesser}
+use Rattle.es_source.specs.Codes.{code_number}
+use Rattle.script_rules.specs.Faults.{is_before, least, lesser}
 use Rattle.script_rules.specs.Order.{earlier}
 
 -- ---- places and codes
@@ -45,15 +46,15 @@ code_back code.Capture = refl
 code_back code.BadBinding = refl
 code_back code.Misplaced = refl
 
-alike : (a b : SourceFault) → a.code ≡ b.code → a.line ≡ b.line → a.column ≡ b.column → a ≡ b
-alike a b p q r = λ i. record { code = p i; line = q i; column = r i }
+alike : (a b : SourceFault) → a.code ≡ b.code → a.place.line ≡ b.place.line → a.place.column ≡ b.place.column → a ≡ b
+alike a b p q r = λ i. record { code = p i; place = record { line = q i; column = r i } }
 
 connected : (a b : SourceFault) → is_before a b ≡ false → is_before b a ≡ false → a ≡ b
 connected a b p q =
     alike a b
-    (sym (code_back a.code) ∙ ap code_of (same_code a.line a.column (code_number a.code) b.line b.column (code_number b.code) p q) ∙ code_back b.code)
-    (same_line a.line a.column (code_number a.code) b.line b.column (code_number b.code) p q)
-    (same_column a.line a.column (code_number a.code) b.line b.column (code_number b.code) p q)
+    (sym (code_back a.code) ∙ ap code_of (same_code a.place.line a.place.column (code_number a.code) b.place.line b.place.column (code_number b.code) p q) ∙ code_back b.code)
+    (same_line a.place.line a.place.column (code_number a.code) b.place.line b.place.column (code_number b.code) p q)
+    (same_column a.place.line a.place.column (code_number a.code) b.place.line b.place.column (code_number b.code) p q)
 
 -- ---- the lesser of two
 
@@ -62,7 +63,7 @@ lesser_by true a b = b
 lesser_by false a b = a
 
 commutes_by : (a b : SourceFault) (t s : Bool) → is_before b a ≡ t → is_before a b ≡ s → lesser_by t a b ≡ lesser_by s b a
-commutes_by a b true true p q = absurd (asymmetric b.line b.column (code_number b.code) a.line a.column (code_number a.code) p q)
+commutes_by a b true true p q = absurd (asymmetric b.place.line b.place.column (code_number b.code) a.place.line a.place.column (code_number a.code) p q)
 commutes_by a b true false p q = refl
 commutes_by a b false true p q = refl
 commutes_by a b false false p q = connected a b q p
@@ -71,12 +72,12 @@ commutes_by a b false false p q = connected a b q p
 associates_by : (a b c : SourceFault) (t s r : Bool) → is_before c b ≡ t → is_before b a ≡ s → is_before c a ≡ r
     → lesser (lesser_by s a b) (Some c) ≡ lesser a (Some (lesser_by t b c))
 associates_by a b c true true r p q e =
-    let w = transitive c.line c.column (code_number c.code) b.line b.column (code_number b.code) a.line a.column (code_number a.code) p q in
+    let w = transitive c.place.line c.place.column (code_number c.code) b.place.line b.place.column (code_number b.code) a.place.line a.place.column (code_number a.code) p q in
     rw (p, w) refl
 associates_by a b c true false r p q e = refl
 associates_by a b c false true r p q e = rw (p, q) refl
 associates_by a b c false false r p q e =
-    let w = between c.line c.column (code_number c.code) b.line b.column (code_number b.code) a.line a.column (code_number a.code) p q in
+    let w = between c.place.line c.place.column (code_number c.code) b.place.line b.place.column (code_number b.code) a.place.line a.place.column (code_number a.code) p q in
     rw (w, q) refl
 
 pub earlier-None : (a : Option SourceFault) → earlier a None ≡ a

@@ -1,7 +1,6 @@
 pub mod Parts
 pub mod Lists
 pub mod NameTables
-pub mod SameText
 pub mod Chains
 pub mod NamePlaces
 pub mod Earliest

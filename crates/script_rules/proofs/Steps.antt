@@ -2,11 +2,11 @@
 use Rattle.std.proofs.Common.{◌≡◌, ◌<◌, ◌++◌, ap, refl, ℕ, ◌+◌, Bool, List, [], length, Option, Some, Result, Ok, Err, OnOk, IfOk, append-nil}
 use Rattle.es_source.specs.declared.faults.SourceFault.{SourceFault}
 use Rattle.script_grammar.specs.declared.leaf.Leaf.{Leaf}
-use Rattle.script_grammar.specs.declared.node.Node.{Node}
+use Rattle.script_grammar.specs.declared.node.ParseNode.{ParseNode}
 use Rattle.script_rules.specs.declared.scope.Scope.{Scope}
 use Rattle.script_rules.specs.declared.scope_entry.ScopeId.{ScopeId}
 use Rattle.script_rules.specs.declared.faults.walk.Walk.{Walk}
-use Rattle.script_grammar.specs.Tree.{Tree}
+use Rattle.script_grammar.specs.Tree.{ParseTree}
 use Rattle.script_rules.specs.Chains.{chain_at}
 use Rattle.script_rules.specs.Faults.{faults, least}
 use Rattle.script_rules.specs.Visits.{OpensScope, HasChain, around_in}
@@ -24,7 +24,7 @@ if_ok (Err e) f a = a
 pub here : (chains : List (List Scope)) (id : ScopeId) → id.0 < length chains → HasChain chains id (chain_at chains id.0)
 here chains id k = record { known = k; chain = refl }
 
-module _ (leaves : List Leaf) (ns : List Node) where
+module _ (leaves : List Leaf) (ns : List ParseNode) where
   pub opens_scope : (a b c : Walk) (fault : Option SourceFault) (outer : ScopeId) (s : Scope) (id : ScopeId) (found : List SourceFault) → IsReady ns a → outer.0 < length a.scopes
       → Reports a b fault → Opens b c (Some outer) s id → fault ≡ least found → OpensScope leaves ns a c found outer s id
   opens_scope a b c fault outer s id found ready known r o is =
@@ -36,7 +36,7 @@ module _ (leaves : List Leaf) (ns : List Node) where
       }
 
   -- a step more, at a scope that is known before it
-  pub onto : (a b c : Walk) (f : List SourceFault) (m n : ℕ) (id : ScopeId) (s : List Scope) (looping : Bool) (x : Tree) → Visits leaves ns a b f m → HasChain b.scopes id s
+  pub onto : (a b c : Walk) (f : List SourceFault) (m n : ℕ) (id : ScopeId) (s : List Scope) (looping : Bool) (x : ParseTree) → Visits leaves ns a b f m → HasChain b.scopes id s
       → Visits leaves ns b c (faults leaves (around_in b.scopes id looping) x) n
       → Visits leaves ns a c (f ++ faults leaves (record { scopes = s; in_loop = looping }) x) (m + n)
   onto a b c f m n id s looping x v h w =

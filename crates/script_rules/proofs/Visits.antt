@@ -2,8 +2,8 @@
 use Rattle.std.proofs.Common.{◌≡◌, ◌<◌, ◌++◌, ◌∙◌, ap, sym, refl, ℕ, ◌+◌, Bool, true, false, List, [], ◌∷◌, length, Option, Some, None, zero-add, append-nil, append_assoc, arith}
 use Rattle.es_source.specs.declared.faults.SourceFault.{SourceFault}
 use Rattle.script_grammar.specs.declared.leaf.Leaf.{Leaf}
-use Rattle.script_grammar.specs.declared.node.Node.{Node}
-use Rattle.script_grammar.specs.Tree.{Tree}
+use Rattle.script_grammar.specs.declared.node.ParseNode.{ParseNode}
+use Rattle.script_grammar.specs.Tree.{ParseTree}
 use Rattle.script_rules.specs.declared.scope.Scope.{Scope}
 use Rattle.script_rules.specs.declared.scope_entry.ScopeId.{ScopeId}
 use Rattle.script_rules.specs.declared.faults.walk.Task.{Task}
@@ -12,7 +12,7 @@ use Rattle.script_rules.specs.Chains.{chain_at}
 use Rattle.script_rules.specs.Faults.{Around, binding_faults, duplicates, faults, least, looping, own_units, setter_names, within}
 use Rattle.script_grammar.specs.declared.labels.Wrap.{Wrap}
 use Rattle.script_grammar.specs.declared.labels.Wrap.TheVariants as wrap
-use Rattle.script_grammar.specs.Tree.{Tree as t}
+use Rattle.script_grammar.specs.Tree.{ParseTree as parse_tree}
 use Rattle.script_rules.specs.declared.faults.code.Code.{Code}
 use Rattle.script_grammar.specs.declared.labels.Pair.{Pair}
 use Rattle.script_grammar.specs.declared.labels.Pair.TheVariants as pair
@@ -29,9 +29,9 @@ use Rattle.script_rules.specs.Walks.{Visits, around_task, size_at}
 use Rattle.script_rules.proofs.Walks.{still, then_visits, as_visits}
 use Rattle.script_rules.proofs.Steps.{here, onto}
 
-module _ (leaves : List Leaf) (ns : List Node) where
+module _ (leaves : List Leaf) (ns : List ParseNode) where
   -- one part within a scope that was opened
-  pub inside : (a b c : Walk) (task : Task) (x : Tree) (n : ℕ) (own : List SourceFault) (fault : Option SourceFault) (made s : Scope) (id : ScopeId)
+  pub inside : (a b c : Walk) (task : Task) (x : ParseTree) (n : ℕ) (own : List SourceFault) (fault : Option SourceFault) (made s : Scope) (id : ScopeId)
       → fault ≡ least own → made ≡ s → ((found : List SourceFault) → fault ≡ least found → OpensScope leaves ns a b found task.scope made id)
       → Visits leaves ns b c (faults leaves (around_in b.scopes id task.in_loop) x) n
       → Visits leaves ns a c (own ++ faults leaves (within s (around_task a.scopes task)) x) n
@@ -40,7 +40,7 @@ module _ (leaves : List Leaf) (ns : List Node) where
       as_visits leaves ns a c _ _ (0 + n) n (onto leaves ns a b c own 0 n id (s ∷ chain_at a.scopes task.scope.0) task.in_loop x o.visits o.has v) refl (zero-add n)
 
   -- one part in the same scope
-  pub beside : (a b c : Walk) (task : Task) (x : Tree) (n : ℕ) (own : List SourceFault) → task.scope.0 < length a.scopes → Visits leaves ns a b own 0
+  pub beside : (a b c : Walk) (task : Task) (x : ParseTree) (n : ℕ) (own : List SourceFault) → task.scope.0 < length a.scopes → Visits leaves ns a b own 0
       → Visits leaves ns b c (faults leaves (around_in b.scopes task.scope task.in_loop) x) n
       → Visits leaves ns a c (own ++ faults leaves (around_task a.scopes task) x) n
   beside a b c task x n own known v w =
@@ -48,7 +48,7 @@ module _ (leaves : List Leaf) (ns : List Node) where
       (onto leaves ns a b c own 0 n task.scope (chain_at a.scopes task.scope.0) task.in_loop x v (still leaves ns a b own 0 v task.scope _ (here a.scopes task.scope known)) w) refl (zero-add n)
 
   -- two parts in the same scope
-  pub both : (a b c d : Walk) (task : Task) (x y : Tree) (m n : ℕ) (looping : Bool) (own : List SourceFault) → task.scope.0 < length a.scopes → Visits leaves ns a b own 0
+  pub both : (a b c d : Walk) (task : Task) (x y : ParseTree) (m n : ℕ) (looping : Bool) (own : List SourceFault) → task.scope.0 < length a.scopes → Visits leaves ns a b own 0
       → Visits leaves ns b c (faults leaves (around_in b.scopes task.scope task.in_loop) x) m
       → Visits leaves ns c d (faults leaves (around_in c.scopes task.scope looping) y) n
       → Visits leaves ns a d (own ++ faults leaves (around_task a.scopes task) x ++ faults leaves (around_in a.scopes task.scope looping) y) (m + n)
@@ -88,7 +88,7 @@ module _ (leaves : List Leaf) (ns : List Node) where
   for_counted n m k l = omega arith
 
   -- the parts of a `for`
-  pub for_visited : (a b c d e f : Walk) (task : Task) (x y z w : Tree) (n m k l : ℕ) (own : List SourceFault) (fault : Option SourceFault) (made s : Scope) (id : ScopeId)
+  pub for_visited : (a b c d e f : Walk) (task : Task) (x y z w : ParseTree) (n m k l : ℕ) (own : List SourceFault) (fault : Option SourceFault) (made s : Scope) (id : ScopeId)
       → fault ≡ least own → made ≡ s → ((found : List SourceFault) → fault ≡ least found → OpensScope leaves ns a b found task.scope made id)
       → Visits leaves ns b c (faults leaves (around_in b.scopes id task.in_loop) x) n
       → Visits leaves ns c d (faults leaves (around_in c.scopes id task.in_loop) y) m
@@ -109,8 +109,8 @@ module _ (leaves : List Leaf) (ns : List Node) where
 
 -- ---- what labels without a scope of their own have
 
-pub wrap_faults : (leaves : List Leaf) (a : Around) (f : Wrap) (x : Tree) → ((i : ℕ) → f ≡ wrap.Block i → ⊥) → ((i : ℕ) → f ≡ wrap.CatchName i → ⊥)
-    → own_of_wrap leaves a f x ++ faults leaves a x ≡ faults leaves a (t.Wrap f x)
+pub wrap_faults : (leaves : List Leaf) (a : Around) (f : Wrap) (x : ParseTree) → ((i : ℕ) → f ≡ wrap.Block i → ⊥) → ((i : ℕ) → f ≡ wrap.CatchName i → ⊥)
+    → own_of_wrap leaves a f x ++ faults leaves a x ≡ faults leaves a (parse_tree.Wrap f x)
 wrap_faults leaves a (wrap.Block i) x p q = absurd (p i refl)
 wrap_faults leaves a (wrap.CatchName i) x p q = absurd (q i refl)
 wrap_faults leaves a _ x p q = refl
@@ -125,8 +125,8 @@ same_code : (c d : Code) → Some c ≡ Some d → c ≡ d
 same_code c d e = cc
 
 -- the faults of the functions that have two parts
-pub code_faults_of : (leaves : List Leaf) (ns : List Node) (a : Around) (f : Pair) (x y : ℕ) (c : Code) → Some c ≡ code_of_pair f x y
-    → code_faults leaves ns a c ≡ faults leaves a (t.Pair f (tree_at ns x) (tree_at ns y))
+pub code_faults_of : (leaves : List Leaf) (ns : List ParseNode) (a : Around) (f : Pair) (x y : ℕ) (c : Code) → Some c ≡ code_of_pair f x y
+    → code_faults leaves ns a c ≡ faults leaves a (parse_tree.Pair f (tree_at ns x) (tree_at ns y))
 code_faults_of leaves ns a (pair.Function i) x y c e = rw (same_code _ _ e) refl
 code_faults_of leaves ns a (pair.NamedFunction i name) x y c e = rw (same_code _ _ e) refl
 code_faults_of leaves ns a (pair.DeclaredFunction i name) x y c e = rw (same_code _ _ e) refl
@@ -139,7 +139,7 @@ code_faults_of leaves ns a (pair.Setter i parameter) x y c e =
     (faults leaves (around_code leaves ns a d) (tree_at ns y)))
 code_faults_of leaves ns a _ x y c e = absurd (cc e)
 
-pub code_size_of : (ns : List Node) (f : Pair) (x y : ℕ) (c : Code) → Some c ≡ code_of_pair f x y → code_size ns c ≡ size_at ns x + size_at ns y
+pub code_size_of : (ns : List ParseNode) (f : Pair) (x y : ℕ) (c : Code) → Some c ≡ code_of_pair f x y → code_size ns c ≡ size_at ns x + size_at ns y
 code_size_of ns (pair.Function i) x y c e = rw (same_code _ _ e) (omega arith)
 code_size_of ns (pair.NamedFunction i name) x y c e = rw (same_code _ _ e) (omega arith)
 code_size_of ns (pair.DeclaredFunction i name) x y c e = rw (same_code _ _ e) (omega arith)
@@ -147,7 +147,7 @@ code_size_of ns (pair.Getter i) x y c e = rw (same_code _ _ e) (omega arith)
 code_size_of ns (pair.Setter i parameter) x y c e = rw (same_code _ _ e) (omega arith)
 code_size_of ns _ x y c e = absurd (cc e)
 
-pub is_code : (ns : List Node) (f : Pair) (x y : ℕ) (c : Code) → Some c ≡ code_of_pair f x y → IsPart ns x → IsPart ns y → IsCode ns c
+pub is_code : (ns : List ParseNode) (f : Pair) (x y : ℕ) (c : Code) → Some c ≡ code_of_pair f x y → IsPart ns x → IsPart ns y → IsCode ns c
 is_code ns (pair.Function i) x y c e p q = rw (same_code _ _ e) (record { key = tt; list = p; body = q })
 is_code ns (pair.NamedFunction i name) x y c e p q = rw (same_code _ _ e) (record { key = tt; list = p; body = q })
 is_code ns (pair.DeclaredFunction i name) x y c e p q = rw (same_code _ _ e) (record { key = tt; list = p; body = q })
@@ -155,8 +155,8 @@ is_code ns (pair.Getter i) x y c e p q = rw (same_code _ _ e) (record { key = p;
 is_code ns (pair.Setter i parameter) x y c e p q = rw (same_code _ _ e) (record { key = p; list = tt; body = q })
 is_code ns _ x y c e p q = absurd (cc e)
 
-pub pair_faults : (leaves : List Leaf) (a : Around) (f : Pair) (i j : ℕ) (x y : Tree) → None ≡ code_of_pair f i j
-    → own_of_pair leaves f x ++ faults leaves a x ++ faults leaves (record { scopes = a.scopes; in_loop = loops f a.in_loop }) y ≡ faults leaves a (t.Pair f x y)
+pub pair_faults : (leaves : List Leaf) (a : Around) (f : Pair) (i j : ℕ) (x y : ParseTree) → None ≡ code_of_pair f i j
+    → own_of_pair leaves f x ++ faults leaves a x ++ faults leaves (record { scopes = a.scopes; in_loop = loops f a.in_loop }) y ≡ faults leaves a (parse_tree.Pair f x y)
 pair_faults leaves a (pair.Function k) i j x y e = absurd (cc e)
 pair_faults leaves a (pair.NamedFunction k name) i j x y e = absurd (cc e)
 pair_faults leaves a (pair.DeclaredFunction k name) i j x y e = absurd (cc e)
@@ -165,7 +165,7 @@ pair_faults leaves a (pair.Setter k parameter) i j x y e = absurd (cc e)
 pair_faults leaves a _ i j x y e = refl
 
 -- the names of a function, as the calls that read them say
-pub code_opened : (leaves : List Leaf) (ns : List Node) (a b : Walk) (outer : ScopeId) (c : Code) (id : ScopeId) (fault : Option SourceFault) (made : Scope) (ps ds qs es : List Declared)
+pub code_opened : (leaves : List Leaf) (ns : List ParseNode) (a b : Walk) (outer : ScopeId) (c : Code) (id : ScopeId) (fault : Option SourceFault) (made : Scope) (ps ds qs es : List Declared)
     → fault ≡ least (optional_binding leaves c.bound ++ duplicates leaves (ps ++ ds)) → made ≡ function_scope leaves (own_units leaves c.callee) qs es
     → ps ≡ parameters_of ns c.parameters → ds ≡ declared_in (tree_at ns c.body) → qs ≡ parameters_of ns c.parameters → es ≡ declared_in (tree_at ns c.body)
     → ((found : List SourceFault) → fault ≡ least found → OpensScope leaves ns a b found outer made id)
@@ -174,7 +174,7 @@ code_opened leaves ns a b outer c id fault made ps ds qs es is eq p d q e opens 
     let scope : made ≡ scope_of_code leaves ns c = eq ∙ rw (q, e) refl in
     rw (← scope) (opens (own_of_code leaves ns c) (is ∙ rw (p, d) refl))
 
-pub triple_faults : (leaves : List Leaf) (a : Around) (f : Triple) (x y z : Tree) → (f ≡ triple.Method → ⊥) → faults leaves a x ++ faults leaves a y ++ faults leaves a z ≡ faults leaves a (t.Triple f x y z)
+pub triple_faults : (leaves : List Leaf) (a : Around) (f : Triple) (x y z : ParseTree) → (f ≡ triple.Method → ⊥) → faults leaves a x ++ faults leaves a y ++ faults leaves a z ≡ faults leaves a (parse_tree.Triple f x y z)
 triple_faults leaves a triple.Method x y z p = absurd (p refl)
 triple_faults leaves a _ x y z p = refl
 

@@ -2,7 +2,7 @@
 use Rattle.std.proofs.Common.{◌≡◌, ◌++◌, ◌∙◌, ap, sym, refl, ℕ, ◌+◌, List, [], ◌∷◌, length, length-append, append_assoc, append-nil, add_assoc, add-zero, Option, None, arith}
 use Rattle.es_source.specs.declared.faults.SourceFault.{SourceFault}
 use Rattle.script_grammar.specs.declared.leaf.Leaf.{Leaf}
-use Rattle.script_grammar.specs.declared.node.Node.{Node}
+use Rattle.script_grammar.specs.declared.node.ParseNode.{ParseNode}
 use Rattle.script_rules.specs.declared.scope.Scope.{Scope}
 use Rattle.script_rules.specs.declared.scope_entry.ScopeId.{ScopeId}
 use Rattle.script_rules.specs.declared.faults.walk.Task.{Task}
@@ -17,7 +17,7 @@ use Rattle.script_rules.proofs.Chains.{chain_kept}
 use Rattle.script_rules.proofs.Earliest.{associates, earlier-None, last_of, least-append}
 use Rattle.std.proofs.Math.Seq.{get_or-append_seam}
 
-module _ (leaves : List Leaf) (ns : List Node) where
+module _ (leaves : List Leaf) (ns : List ParseNode) where
   pending-append : (chains : List (List Scope)) (xs ys : List Task) → pending leaves ns chains (xs ++ ys) ≡ pending leaves ns chains xs ++ pending leaves ns chains ys
   pending-append chains [] ys = refl
   pending-append chains (x ∷ xs) ys = ap (λ fs. task_faults leaves ns chains x ++ fs) (pending-append chains xs ys) ∙ sym (append_assoc (task_faults leaves ns chains x) (pending leaves ns chains xs) (pending leaves ns chains ys))
@@ -34,7 +34,7 @@ module _ (leaves : List Leaf) (ns : List Node) where
       ap (λ (s : List Scope). faults leaves (record { scopes = s; in_loop = x.in_loop }) (tree_at ns x.node)) (chain_kept chains more x.scope.0 all.0.scope) in
       ap (λ fs. fs ++ pending leaves ns (chains ++ more) xs) here ∙ ap (λ fs. task_faults leaves ns chains x ++ fs) (pending_kept chains more xs all.1)
 
-module _ (ns : List Node) where
+module _ (ns : List ParseNode) where
   all_kept : (chains more : List (List Scope)) (xs : List Task) → AllTasks ns chains xs → AllTasks ns (chains ++ more) xs
   all_kept chains more [] all = tt
   all_kept chains more (x ∷ xs) all = (record { part = all.0.part; scope = omega (arith, all.0.scope, length-append chains more) }, all_kept chains more xs all.1)
@@ -53,7 +53,7 @@ module _ (ns : List Node) where
 
 -- ---- each step
 
-module _ (leaves : List Leaf) (ns : List Node) (old new : Walk) where
+module _ (leaves : List Leaf) (ns : List ParseNode) (old new : Walk) where
   pub pushed : (task : Task) (s : List Scope) → Pushes old new task → IsReady ns old → IsPart ns task.node → HasChain old.scopes task.scope s
       → Visits leaves ns old new (faults leaves (record { scopes = s; in_loop = task.in_loop }) (tree_at ns task.node)) (size_at ns task.node)
   unfolding IsReady outcome weight
@@ -98,7 +98,7 @@ module _ (leaves : List Leaf) (ns : List Node) (old new : Walk) where
 
 -- ---- steps after another
 
-module _ (leaves : List Leaf) (ns : List Node) (a b : Walk) (f : List SourceFault) (m : ℕ) (v : Visits leaves ns a b f m) where
+module _ (leaves : List Leaf) (ns : List ParseNode) (a b : Walk) (f : List SourceFault) (m : ℕ) (v : Visits leaves ns a b f m) where
   pub still : (id : ScopeId) (s : List Scope) → HasChain a.scopes id s → HasChain b.scopes id s
   still id s h = record {
     known = omega (arith, h.known, ap length v.kept, length-append a.scopes v.more);
@@ -116,7 +116,7 @@ module _ (leaves : List Leaf) (ns : List Node) (a b : Walk) (f : List SourceFaul
   }
 
 -- nothing was done
-pub idle : (leaves : List Leaf) (ns : List Node) (w : Walk) → IsReady ns w → Visits leaves ns w w [] 0
+pub idle : (leaves : List Leaf) (ns : List ParseNode) (w : Walk) → IsReady ns w → Visits leaves ns w w [] 0
 idle leaves ns w ready = record {
   more = [];
   kept = sym (append-nil w.scopes);
@@ -125,12 +125,12 @@ idle leaves ns w ready = record {
   weight_is = sym (add-zero (weight ns w));
 }
 
-pub as_visits : (leaves : List Leaf) (ns : List Node) (a b : Walk) (f g : List SourceFault) (m n : ℕ) → Visits leaves ns a b f m → f ≡ g → m ≡ n → Visits leaves ns a b g n
+pub as_visits : (leaves : List Leaf) (ns : List ParseNode) (a b : Walk) (f g : List SourceFault) (m n : ℕ) → Visits leaves ns a b f m → f ≡ g → m ≡ n → Visits leaves ns a b g n
 as_visits leaves ns a b f g m n v e k = rw (← e, ← k) v
 
 -- ---- the start and the end
 
-module _ (leaves : List Leaf) (ns : List Node) (w : Walk) where
+module _ (leaves : List Leaf) (ns : List ParseNode) (w : Walk) where
   pub ready_start : Starts w → IsReady ns w
   unfolding IsReady
   ready_start s = rw (s.scopes, s.tasks) tt
@@ -143,7 +143,7 @@ module _ (leaves : List Leaf) (ns : List Node) (w : Walk) where
   unfolding outcome
   outcome_end e = rw e (earlier-None w.fault)
 
-module _ (leaves : List Leaf) (ns : List Node) (old new : Walk) (task : Task) (p : Pops old new task) where
+module _ (leaves : List Leaf) (ns : List ParseNode) (old new : Walk) (task : Task) (p : Pops old new task) where
   pub ready_popped : IsReady ns old → IsReady ns new × IsTask ns new.scopes task
   unfolding IsReady
   ready_popped ready = rw p.scopes (front ns old.scopes new.tasks.items task (rw p.tasks at ready))
@@ -158,6 +158,6 @@ module _ (leaves : List Leaf) (ns : List Node) (old new : Walk) (task : Task) (p
   unfolding weight
   weight_popped = rw p.tasks (weight_one ns new.tasks.items task)
 
-pub ready_reported : (ns : List Node) (old new : Walk) (fault : Option SourceFault) → Reports old new fault → IsReady ns old → IsReady ns new
+pub ready_reported : (ns : List ParseNode) (old new : Walk) (fault : Option SourceFault) → Reports old new fault → IsReady ns old → IsReady ns new
 unfolding IsReady
 ready_reported ns old new fault r ready = rw (r.scopes, r.tasks) ready

@@ -2,9 +2,9 @@
 use Rattle.std.proofs.Common.{◌≡◌, ◌<◌, ◌++◌, ◌∙◌, ap, sym, refl, ℕ, suc, false, List, [], ◌∷◌, Option, None, append-nil, arith}
 use Rattle.es_source.specs.declared.faults.SourceFault.{SourceFault}
 use Rattle.script_grammar.specs.declared.leaf.Leaf.{Leaf}
-use Rattle.script_grammar.specs.declared.node.Node.{Node}
-use Rattle.script_grammar.specs.Tree.{Tree}
-use Rattle.script_grammar.specs.Tree.{Tree as t}
+use Rattle.script_grammar.specs.declared.node.ParseNode.{ParseNode}
+use Rattle.script_grammar.specs.Tree.{ParseTree}
+use Rattle.script_grammar.specs.Tree.{ParseTree as parse_tree}
 use Rattle.script_rules.specs.declared.scope.Scope.{Scope}
 use Rattle.script_rules.specs.declared.scope_entry.ScopeId.{ScopeId}
 use Rattle.script_rules.specs.declared.manner.Declared.{Declared}
@@ -20,7 +20,7 @@ use Rattle.script_rules.proofs.Walks.{chain_opened, opened, outcome_end, outcome
 
 -- ---- the start
 
-pub starts : (leaves : List Leaf) (ns : List Node) (root : ℕ) (a b c d : Walk) (fault : Option SourceFault) (made : Scope) (id : ScopeId) (names ds : List Declared) (items : ℕ)
+pub starts : (leaves : List Leaf) (ns : List ParseNode) (root : ℕ) (a b c d : Walk) (fault : Option SourceFault) (made : Scope) (id : ScopeId) (names ds : List Declared) (items : ℕ)
     → items ≡ root → IsPart ns root → Starts a → Reports a b fault → Opens b c None made id → Pushes c d (record { node = items; scope = id; in_loop = false })
     → names ≡ declared_in (tree_at ns root) → ds ≡ declared_in (tree_at ns root) → fault ≡ least (duplicates leaves names) → made ≡ script_scope leaves ds → StartsAt leaves ns root d
 starts leaves ns root a b c d fault made id names ds items same_root part s r o p same same' is eq =
@@ -41,7 +41,7 @@ starts leaves ns root a b c d fault made id names ds items same_root part s r o 
 
 -- ---- a part after another
 
-module _ (leaves : List Leaf) (ns : List Node) (root : ℕ) (a b : Walk) (task : Task) (p : Pops a b task) (s : StartsAt leaves ns root a) where
+module _ (leaves : List Leaf) (ns : List ParseNode) (root : ℕ) (a b : Walk) (task : Task) (p : Pops a b task) (s : StartsAt leaves ns root a) where
   pub ready_next : IsReady ns b
   ready_next = (ready_popped leaves ns a b task p s.ready).0
 
@@ -54,12 +54,12 @@ module _ (leaves : List Leaf) (ns : List Node) (root : ℕ) (a b : Walk) (task :
     outcome_is = v.outcome_is ∙ sym (outcome_popped leaves ns a b task p) ∙ s.outcome_is;
   }
 
-  parts_smaller : (x : Tree) → size x ≡ suc (size_of_parts x)
-  parts_smaller (t.Atom f) = refl
-  parts_smaller (t.Wrap f x) = refl
-  parts_smaller (t.Pair f x y) = refl
-  parts_smaller (t.Triple f x y z) = refl
-  parts_smaller (t.Quad f x y z w) = refl
+  parts_smaller : (x : ParseTree) → size x ≡ suc (size_of_parts x)
+  parts_smaller (parse_tree.Atom f) = refl
+  parts_smaller (parse_tree.Wrap f x) = refl
+  parts_smaller (parse_tree.Pair f x y) = refl
+  parts_smaller (parse_tree.Triple f x y z) = refl
+  parts_smaller (parse_tree.Quad f x y z w) = refl
 
   size_here : (n : ℕ) → size_at ns n ≡ suc (size_of_parts (tree_at ns n))
   unfolding size_at
@@ -70,5 +70,5 @@ module _ (leaves : List Leaf) (ns : List Node) (root : ℕ) (a b : Walk) (task :
 
 -- ---- the end
 
-pub ends : (leaves : List Leaf) (ns : List Node) (root : ℕ) (a b : Walk) → Ends a b → StartsAt leaves ns root a → b.fault ≡ static_fault leaves (tree_at ns root)
+pub ends : (leaves : List Leaf) (ns : List ParseNode) (root : ℕ) (a b : Walk) → Ends a b → StartsAt leaves ns root a → b.fault ≡ static_fault leaves (tree_at ns root)
 ends leaves ns root a b e s = e.fault ∙ sym (outcome_end leaves ns a e.tasks) ∙ s.outcome_is

@@ -2,7 +2,7 @@
 use Rattle.std.specs.Prelude.{◌≡◌, ◌<◌, ℕ, ◌+◌, ◌^◌, List, [], ◌∷◌, ◌++◌, length, Option, Some, None, Result, Ok, Err, unwrap_or, slice_index_or}
 use Rattle.script_rules.specs.declared.resolved.Resolved.{Resolved}
 use Rattle.script_rules.specs.declared.scope.Scope.{Scope}
-use Rattle.script_rules.specs.declared.scope_entry.Entry.{Entry}
+use Rattle.script_rules.specs.declared.scope_entry.ScopeEntry.{ScopeEntry}
 use Rattle.script_rules.specs.declared.scope_entry.ScopeId.{ScopeId}
 use Rattle.script_rules.specs.Scopes.{first_place, in_force, in_force_after}
 
@@ -36,23 +36,23 @@ Entered old new outer s (Err e) = new ≡ old
 
 -- ---- the table's entries, from the first on
 
-abbrev pub chain_of : List (List Scope) → Entry → List Scope
+abbrev pub chain_of : List (List Scope) → ScopeEntry → List Scope
 chain_of chains e = e.scope ∷ chain_from chains e.outer
 
-abbrev pub chains_after : List (List Scope) → List Entry → List (List Scope)
+abbrev pub chains_after : List (List Scope) → List ScopeEntry → List (List Scope)
 chains_after done [] = done
 chains_after done (e ∷ es) = chains_after (done ++ chain_of done e ∷ []) es
 
-pub record Counts (outside : List Scope) (e : Entry) : Type 0 where
+pub record Counts (outside : List Scope) (e : ScopeEntry) : Type 0 where
   pub first : e.first ≡ first_place e.scope.owner (in_force outside)
   pub in_force : e.in_force ≡ in_force (e.scope ∷ outside)
   pub room : e.first + length e.scope.names < 2 ^ 32
 
-pub record Fits (chains : List (List Scope)) (e : Entry) : Type 0 where
+pub record Fits (chains : List (List Scope)) (e : ScopeEntry) : Type 0 where
   pub outer : IsKnown chains e.outer
   pub counts : Counts (chain_from chains e.outer) e
 
-abbrev pub AllFit : List (List Scope) → List Entry → Type 0
+abbrev pub AllFit : List (List Scope) → List ScopeEntry → Type 0
 AllFit done [] = Unit {0}
 AllFit done (e ∷ es) = Fits done e × AllFit (done ++ chain_of done e ∷ []) es
 
@@ -62,13 +62,13 @@ abbrev pub IsBelow : ℕ → Option ScopeId → Type 0
 IsBelow n None = Unit {0}
 IsBelow n (Some id) = id.0 < n
 
-pub record IsEntry (chains : List (List Scope)) (n : ℕ) (e : Entry) : Type 0 where
+pub record IsEntry (chains : List (List Scope)) (n : ℕ) (e : ScopeEntry) : Type 0 where
   pub chain : chain_at chains n ≡ chain_of chains e
   pub outer : IsBelow n e.outer
   pub counts : Counts (chain_from chains e.outer) e
 
 -- the entry of a scope, where so many names are in force outside of it
-pub record HoldsScope (outside : ℕ) (around : Option ScopeId) (s : Scope) (e : Entry) : Type 0 where
+pub record HoldsScope (outside : ℕ) (around : Option ScopeId) (s : Scope) (e : ScopeEntry) : Type 0 where
   pub scope : e.scope ≡ s
   pub outer : e.outer ≡ around
   pub first : e.first ≡ first_place s.owner outside

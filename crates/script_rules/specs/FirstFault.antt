@@ -6,7 +6,7 @@ use Rattle.es_source.specs.Reading.{Reading, reading_of}
 use Rattle.script_grammar.specs.declared.leaf.Leaf.{Leaf}
 use Rattle.script_grammar.specs.Completed.{Derives, HasGrammarFault}
 use Rattle.script_grammar.specs.Scripts.{leaf_of}
-use Rattle.script_grammar.specs.Tree.{Tree}
+use Rattle.script_grammar.specs.Tree.{ParseTree}
 use Rattle.script_rules.specs.Faults.{static_fault}
 
 abbrev pub leaves_of : List Token → List Leaf
@@ -19,4 +19,8 @@ pub data HasFirstFault : List ℕ → Option SourceFault → Type 0 where
   -- of the grammar
   at_grammar : {bytes : List ℕ} {f : SourceFault} (r : Reading) → reading_of bytes ≡ Ok r → HasGrammarFault r (Some f) → HasFirstFault bytes (Some f)
   -- of the static rules, or none
-  at_rules : {bytes : List ℕ} {f : Option SourceFault} (r : Reading) (x : Tree) → reading_of bytes ≡ Ok r → Derives r.tokens x → static_fault (leaves_of r.tokens) x ≡ f → HasFirstFault bytes f
+  at_rules : {bytes : List ℕ} {f : Option SourceFault} (r : Reading) (x : ParseTree)
+      → reading_of bytes ≡ Ok r
+      → Derives r.tokens x
+      → static_fault (leaves_of r.tokens) x ≡ f
+      → HasFirstFault bytes f

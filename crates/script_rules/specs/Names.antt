@@ -6,8 +6,8 @@ use Rattle.script_grammar.specs.declared.leaf.LeafKind.TheVariants as leaf
 use Rattle.script_grammar.specs.declared.labels.Atom.TheVariants as atom
 use Rattle.script_grammar.specs.declared.labels.Wrap.TheVariants as wrap
 use Rattle.script_grammar.specs.declared.labels.Pair.TheVariants as pair
-use Rattle.script_grammar.specs.Tree.{Tree}
-use Rattle.script_grammar.specs.Tree.{Tree as t}
+use Rattle.script_grammar.specs.Tree.{ParseTree}
+use Rattle.script_grammar.specs.Tree.{ParseTree as parse_tree}
 use Rattle.script_rules.specs.declared.manner.Declared.{Declared}
 use Rattle.script_rules.specs.declared.manner.Manner.{Manner}
 use Rattle.script_rules.specs.declared.manner.Manner.TheVariants as manner
@@ -35,8 +35,8 @@ units_at leaves i = units_by (slice_get leaves i)
 -- ---- lists
 
 -- the members of a list part, in order
-abbrev pub members : Tree → List Tree
-members (t.Pair pair.And xs x) = members xs ++ x ∷ []
+abbrev pub members : ParseTree → List ParseTree
+members (parse_tree.Pair pair.And xs x) = members xs ++ x ∷ []
 members other = []
 
 -- ---- what is declared, by the number of the name's token
@@ -48,26 +48,26 @@ abbrev pub lexical_manner : (constant : Bool) → Manner
 lexical_manner constant = if constant then manner.Const else manner.Let
 
 -- the name of a Bind, an Init or a parameter
-abbrev pub bound_by : Tree → List ℕ
-bound_by (t.Atom (atom.Binding i)) = i ∷ []
-bound_by (t.Wrap (wrap.Binding i) e) = i ∷ []
+abbrev pub bound_by : ParseTree → List ℕ
+bound_by (parse_tree.Atom (atom.Binding i)) = i ∷ []
+bound_by (parse_tree.Wrap (wrap.Binding i) e) = i ∷ []
 bound_by other = []
 
 -- LexicallyDeclaredNames and the declared functions of one item (8.2.4, 8.2.10)
-abbrev pub declared_by : Tree → List Declared
-declared_by (t.Wrap (wrap.Lexical constant first) binds) = map (declared_as (lexical_manner constant)) (flat_map bound_by (members binds))
-declared_by (t.Pair (pair.DeclaredFunction first name) parameters body) = declared_as manner.Function name ∷ []
+abbrev pub declared_by : ParseTree → List Declared
+declared_by (parse_tree.Wrap (wrap.Lexical constant first) binds) = map (declared_as (lexical_manner constant)) (flat_map bound_by (members binds))
+declared_by (parse_tree.Pair (pair.DeclaredFunction first name) parameters body) = declared_as manner.Function name ∷ []
 declared_by other = []
 
 -- the same of a list of items, in the order of the source
-abbrev pub declared_in : Tree → List Declared
+abbrev pub declared_in : ParseTree → List Declared
 declared_in items = flat_map declared_by (members items)
 
 -- the names of a parameter list
-abbrev pub parameters_in : Tree → List Declared
+abbrev pub parameters_in : ParseTree → List Declared
 parameters_in parameters = map (declared_as manner.Parameter) (flat_map bound_by (members parameters))
 
 -- the names of a block
-abbrev pub declared_in_block : Tree → List Declared
-declared_in_block (t.Wrap (wrap.Block first) items) = declared_in items
+abbrev pub declared_in_block : ParseTree → List Declared
+declared_in_block (parse_tree.Wrap (wrap.Block first) items) = declared_in items
 declared_in_block other = []

@@ -46,7 +46,9 @@ script_scope leaves declared = record { owner = owner.Script; names = with_names
 abbrev pub function_scope : List Leaf → Option (List ℕ) → List Declared → List Declared → Scope
 function_scope leaves own_name parameters declared = record {
   owner = owner.Function;
-  names = with_names (with_names (with_names [] (map (bound_of leaves) parameters)) (bounds_where is_function leaves declared)) (bounds_where is_lexical leaves declared);
+  names =
+      with_names (with_names (with_names [] (map (bound_of leaves) parameters)) (bounds_where is_function leaves declared))
+      (bounds_where is_lexical leaves declared);
   callee = own_name;
 }
 

@@ -1,3 +1,5 @@
+//! How a name is declared.
+
 /// How a name comes to be declared.
 #[derive(Clone, Copy, PartialEq)]
 pub enum Manner {

@@ -8,7 +8,7 @@ ghost use Rattle.script_rules.specs.Splits.{Splits};
 
 use crate::{Declared, Manner, part};
 use property_keys::NoMemory;
-use script_grammar::{Atom, Node, Pair, Script, Wrap};
+use script_grammar::{Atom, Pair, ParseNode, Script, Wrap};
 use std::alloc::Global;
 
 /// The front and the last member of a list that has members.
@@ -17,7 +17,7 @@ fn split_last(script: &Script, list: u32) -> Option<(u32, u32)>
     ensures { Splits script.now.nodes list result }
 {
     match part(script, list) {
-        Node::Pair(Pair::And, front, last) => Some((front, last)),
+        ParseNode::Pair(Pair::And, front, last) => Some((front, last)),
         _ => None,
     }
 }
@@ -46,8 +46,8 @@ fn bound_by(script: &Script, n: u32) -> Option<u32>
     ensures { option_to_list result ≡ bound_by (tree_at script.now.nodes n) }
 {
     match part(script, n) {
-        Node::Atom(Atom::Binding(name)) => Some(name),
-        Node::Wrap(Wrap::Binding(name), _) => Some(name),
+        ParseNode::Atom(Atom::Binding(name)) => Some(name),
+        ParseNode::Wrap(Wrap::Binding(name), _) => Some(name),
         _ => None,
     }
 }
@@ -92,10 +92,10 @@ fn add_declared(
     ensures { OnOk result (declared.new.items ≡ declared.old.items ++ declared_by (tree_at script.now.nodes item)) }
 {
     match part(script, item) {
-        Node::Wrap(Wrap::Lexical { constant, .. }, binds) => {
+        ParseNode::Wrap(Wrap::Lexical { constant, .. }, binds) => {
             add_names(alloc, script, binds, lexical_manner(constant), declared)
         }
-        Node::Pair(Pair::DeclaredFunction { name, .. }, _, _) => {
+        ParseNode::Pair(Pair::DeclaredFunction { name, .. }, _, _) => {
             let function = Declared {
                 name,
                 manner: Manner::Function,
@@ -153,7 +153,7 @@ pub fn declared_in_block(
     ensures { IfOk result (λ v. v.items ≡ declared_in_block (tree_at script.now.nodes block)) }
 {
     match part(script, block) {
-        Node::Wrap(Wrap::Block(_), items) => declared_in(alloc, script, items),
+        ParseNode::Wrap(Wrap::Block(_), items) => declared_in(alloc, script, items),
         _ => Ok(Vec::new(alloc)),
     }
 }

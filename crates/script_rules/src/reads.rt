@@ -5,10 +5,10 @@ ghost use Rattle.script_rules.specs.Arena.{IsPart, HasParts};
 ghost use Rattle.script_rules.specs.Names.{units_at, units_of};
 
 use property_keys::Units;
-use script_grammar::{Leaf, LeafKind, Node, Script};
+use script_grammar::{Leaf, LeafKind, ParseNode, Script};
 
 /// The node of a part, whose own parts are parts too, with numbers below its own.
-pub fn part(script: &Script, n: u32) -> Node
+pub fn part(script: &Script, n: u32) -> ParseNode
     requires { IsPart script.now.nodes n }
     ensures { HasParts script.now.nodes n result }
 {

@@ -1,3 +1,5 @@
+//! What a scope says of a name.
+
 use es_tree::Binding;
 
 /// What a name is bound to, as far as a body may use it.

@@ -1,3 +1,5 @@
+//! What a part is to the part around it.
+
 /// What a part is to the part around it.
 #[derive(Clone, Copy)]
 pub enum Role {

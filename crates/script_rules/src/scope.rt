@@ -1,3 +1,5 @@
+//! A scope with its names.
+
 use crate::ScopeNames;
 use property_keys::Units;
 

@@ -5,7 +5,6 @@ ghost use Rattle.script_rules.specs.Bounds.{place_from};
 ghost use Rattle.script_rules.specs.Chains.{HoldsScope, Says};
 ghost use Rattle.script_rules.specs.Scopes.{first_place, found_in, in_force_after, is_callee, is_of_function, own_or_captured, passed_at, resolved_by};
 
-use crate::token_units::is_text;
 use crate::{Owner, Resolved, Scope};
 use es_tree::Binding;
 use property_keys::{NoMemory, Units};
@@ -16,7 +15,7 @@ pub struct ScopeId(pub u32);
 
 /// A scope, the one around it, the place of its first name, and how many names of the running body are in force after it.
 #[derive(Drop)]
-pub struct Entry {
+pub struct ScopeEntry {
     pub scope: Scope,
     pub outer: Option<ScopeId>,
     pub first: u32,
@@ -66,7 +65,7 @@ fn passed_at(scope: &Scope, away: bool, units: &Units) -> Option<Resolved>
         Owner::Script => None,
         Owner::Part => None,
         Owner::Function => {
-            if is_text(units, b"arguments") {
+            if units.is_ascii(b"arguments") {
                 Some(Resolved::Finds(Binding::Arguments))
             } else if is_callee(units, &scope.callee) {
                 Some(own_or_captured(away, Binding::Callee))
@@ -78,7 +77,7 @@ fn passed_at(scope: &Scope, away: bool, units: &Units) -> Option<Resolved>
 }
 
 /// What a scope says of a name. None exactly where the scopes outside say it.
-pub fn says(entry: &Entry, away: bool, units: &Units) -> Option<Resolved>
+pub fn says(entry: &ScopeEntry, away: bool, units: &Units) -> Option<Resolved>
     requires { entry.now.first + length entry.now.scope.names < 2 ^ 32 }
     ensures { Says (resolved_by entry.now.scope away units.now (place_from entry.now.first entry.now.scope.names units.now)) result }
 {
@@ -105,7 +104,7 @@ pub fn is_away(away: bool, owner: Owner) -> bool
 }
 
 /// The entry of a scope, where so many names are in force outside of it. `NoMemory` exactly where there is no room for its names.
-pub fn entry_of(outside: u32, outer: Option<ScopeId>, scope: Scope) -> Result<Entry, NoMemory>
+pub fn entry_of(outside: u32, outer: Option<ScopeId>, scope: Scope) -> Result<ScopeEntry, NoMemory>
     ensures { IfOk result (λ e. HoldsScope outside outer scope e) }
 {
     let first = first_place(scope.owner, outside);
@@ -113,7 +112,7 @@ pub fn entry_of(outside: u32, outer: Option<ScopeId>, scope: Scope) -> Result<En
         return Err(NoMemory);
     };
     let in_force = in_force_after(scope.owner, after);
-    Ok(Entry {
+    Ok(ScopeEntry {
         scope,
         outer,
         first,

@@ -1,3 +1,5 @@
+//! A list of names, each once.
+
 ghost use Rattle.std.specs.Prelude.{◌≡◌, ◌<◌, ◌^◌, [], IfOk, OnOk, OnErr, length};
 ghost use Rattle.script_rules.specs.Bounds.{bound, place_from, with_name};
 

@@ -1,8 +1,10 @@
+//! The table of scopes.
+
 ghost use Rattle.std.specs.Prelude.{◌≡◌, ◌<◌, [], length};
 ghost use Rattle.script_rules.specs.Chains.{Entered, IsEntry, IsKnown, chain_at, chain_from, names_in};
 ghost use Rattle.script_rules.specs.Scopes.{in_force, is_in_function, resolved};
 
-use crate::scope_entry::{Entry, entry_of, is_away, is_of_function, says};
+use crate::scope_entry::{ScopeEntry, entry_of, is_away, is_of_function, says};
 use crate::{Resolved, Scope, ScopeId};
 use es_tree::Binding;
 use property_keys::{NoMemory, Units};
@@ -12,7 +14,7 @@ use std::marker::Model;
 /// A table of scopes, which keep their numbers. Of each it has the scopes around it. There is room for 2^32 - 1 scopes and for as many names in force.
 #[derive(Drop)]
 pub struct Scopes {
-    all: Vec<Entry>,
+    all: Vec<ScopeEntry>,
 }
 
 impl Model for Scopes {
@@ -39,7 +41,7 @@ impl Scopes {
     }
 
     /// The entry of a known scope.
-    fn entry(&self, scope: ScopeId) -> &Entry
+    fn entry(&self, scope: ScopeId) -> &ScopeEntry
         requires { scope.0 < length self.now }
         ensures { IsEntry self.now scope.0 result.now }
     {

@@ -32,13 +32,13 @@ last_few (c ∷ cs) = chosen_bytes (ended_lines (c ∷ cs) == 0) (c ∷ cs) (las
 
 -- what a place and the rest after it come to
 pub record Fitting (p : Position) (rest : List ℕ) : Type 0 where
-  pub line : p.line + length rest < 2 ^ 32
-  pub column : p.column + 4 * length rest < 2 ^ 32
+  pub line : p.place.line + length rest < 2 ^ 32
+  pub column : p.place.column + 4 * length rest < 2 ^ 32
 
 pub fitting : (p : Position) (cs : List ℕ) (at : ℕ) → p ≡ position_after (take at cs) → length cs ≤ 2 ^ 22 → at ≤ length cs → Fitting p (drop at cs)
 fitting p cs at e few within =
-    let lines : p.line ≡ 1 + ended_lines (take at cs) = ap (λ (q : Position). q.line) e in
-    let columns : p.column ≡ 1 + sum_by len_utf8 (last_line (take at cs)) = ap (λ (q : Position). q.column) e in
+    let lines : p.place.line ≡ 1 + ended_lines (take at cs) = ap (λ (q : Position). q.place.line) e in
+    let columns : p.place.column ≡ 1 + sum_by len_utf8 (last_line (take at cs)) = ap (λ (q : Position). q.place.column) e in
     record {
       line = omega (arith, ended_few (take at cs), length-take-le at cs within, length-drop at cs);
       column = omega (arith, last_few (take at cs), length-take-le at cs within, length-drop at cs);

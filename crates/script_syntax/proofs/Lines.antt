@@ -96,8 +96,8 @@ sum_push : (f : ℕ → ℕ) (xs : List ℕ) (x : ℕ) → sum_by f (xs ++ x ∷
 sum_push f xs x = sum_by-append f xs (x ∷ []) ∙ omega arith
 
 same_position : (l m c d : ℕ) (r s : Bool) → l ≡ m → c ≡ d → r ≡ s
-    → ◌≡◌ {A = Position} (record { line = l; column = c; after_return = r }) (record { line = m; column = d; after_return = s })
-same_position l m c d r s p q e = λ i. record { line = p i; column = q i; after_return = e i }
+    → ◌≡◌ {A = Position} (record { place = record { line = l; column = c }; after_return = r }) (record { place = record { line = m; column = d }; after_return = s })
+same_position l m c d r s p q e = λ i. record { place = record { line = p i; column = q i }; after_return = e i }
 
 ended_count : (one : Bool) (n : ℕ) → 1 + (if not one then suc n else n) ≡ 1 + n + (if one then 0 else 1)
 ended_count true n = omega arith
@@ -105,7 +105,7 @@ ended_count false n = omega arith
 
 -- the place after one character more
 pub past_terminator : (cs : List ℕ) (c : ℕ) → is_line_terminator c ≡ true
-    → position_after (cs ++ c ∷ []) ≡ record { line = (place_after cs).line + (if ends_in_return cs && (c == 0xA) then 0 else 1); column = 1; after_return = c == 0xD }
+    → position_after (cs ++ c ∷ []) ≡ record { place = record { line = (place_after cs).line + (if ends_in_return cs && (c == 0xA) then 0 else 1); column = 1 }; after_return = c == 0xD }
 past_terminator cs c ends =
     let lines : ended_lines (cs ++ c ∷ []) ≡ (if not (ends_in_return cs && (c == 0xA)) then suc (ended_lines cs) else ended_lines cs) = rw (ended_push cs c, ends) refl in
     same_position _ _ _ _ _ _
@@ -114,7 +114,7 @@ past_terminator cs c ends =
     (return_push cs c)
 
 pub past_other : (cs : List ℕ) (c : ℕ) → is_line_terminator c ≡ false
-    → position_after (cs ++ c ∷ []) ≡ record { line = (place_after cs).line; column = (place_after cs).column + len_utf8 c; after_return = false }
+    → position_after (cs ++ c ∷ []) ≡ record { place = record { line = (place_after cs).line; column = (place_after cs).column + len_utf8 c }; after_return = false }
 past_other cs c other =
     let bytes : sum_by len_utf8 (last_line (cs ++ c ∷ [])) ≡ sum_by len_utf8 (last_line cs) + len_utf8 c = rw (last_stays cs c other) (sum_push len_utf8 (last_line cs) c) in
     same_position _ _ _ _ _ _
@@ -131,20 +131,20 @@ past_other cs c other =
 
 -- the same of a place that a scanner holds
 pub held_other : (p : Position) (cs : List ℕ) (c k : ℕ) → p ≡ position_after cs → is_line_terminator c ≡ false → k ≡ len_utf8 c
-    → ◌≡◌ {A = Position} (record { line = p.line; column = p.column + k; after_return = false }) (position_after (cs ++ c ∷ []))
+    → ◌≡◌ {A = Position} (record { place = record { line = p.place.line; column = p.place.column + k }; after_return = false }) (position_after (cs ++ c ∷ []))
 held_other p cs c k at other e =
-    same_position _ _ _ _ _ _ (ap (λ (q : Position). q.line) at) (λ i. (at i).column + e i) refl ∙ sym (past_other cs c other)
+    same_position _ _ _ _ _ _ (ap (λ (q : Position). q.place.line) at) (λ i. (at i).place.column + e i) refl ∙ sym (past_other cs c other)
 
 pub held_feed : (p : Position) (cs : List ℕ) (c : ℕ) → p ≡ position_after cs → p.after_return ≡ true → c ≡ 0xA
-    → ◌≡◌ {A = Position} (record { line = p.line; column = 1; after_return = false }) (position_after (cs ++ c ∷ []))
+    → ◌≡◌ {A = Position} (record { place = record { line = p.place.line; column = 1 }; after_return = false }) (position_after (cs ++ c ∷ []))
 held_feed p cs c at follows feed =
     let follows_here : ends_in_return cs ≡ true = sym (ap (λ (q : Position). q.after_return) at) ∙ follows in
-    same_position _ _ _ _ _ _ (ap (λ (q : Position). q.line) at ∙ rw (follows_here, feed) (omega arith)) refl (rw feed refl)
+    same_position _ _ _ _ _ _ (ap (λ (q : Position). q.place.line) at ∙ rw (follows_here, feed) (omega arith)) refl (rw feed refl)
     ∙ sym (past_terminator cs c (rw feed refl))
 
 pub held_line : (p : Position) (cs : List ℕ) (c : ℕ) → p ≡ position_after cs → is_line_terminator c ≡ true → (p.after_return && (c == 0xA)) ≡ false
-    → ◌≡◌ {A = Position} (record { line = p.line + 1; column = 1; after_return = c == 0xD }) (position_after (cs ++ c ∷ []))
+    → ◌≡◌ {A = Position} (record { place = record { line = p.place.line + 1; column = 1 }; after_return = c == 0xD }) (position_after (cs ++ c ∷ []))
 held_line p cs c at ends alone =
     let alone_here : (ends_in_return cs && (c == 0xA)) ≡ false = sym (ap (λ (q : Position). q.after_return && (c == 0xA)) at) ∙ alone in
-    same_position _ _ _ _ _ _ (ap (λ (q : Position). q.line + 1) at ∙ rw alone_here refl) refl refl
+    same_position _ _ _ _ _ _ (ap (λ (q : Position). q.place.line + 1) at ∙ rw alone_here refl) refl refl
     ∙ sym (past_terminator cs c ends)

@@ -8,5 +8,5 @@ use Rattle.script_syntax.specs.Positions.{position_after}
 use Rattle.script_syntax.specs.declared.positions.Position.{Position}
 
 pub fault_here : (p : Position) (cs : List ℕ) → p ≡ position_after cs
-    → ◌≡◌ {A = SourceFault} (record { code = NotUtf8; line = p.line; column = p.column }) (fault_at NotUtf8 (place_after cs))
-fault_here p cs e = ap (λ (q : Position). fault_at NotUtf8 (record { line = q.line; column = q.column })) e
+    → ◌≡◌ {A = SourceFault} (record { code = NotUtf8; place = p.place }) (fault_at NotUtf8 (place_after cs))
+fault_here p cs e = ap (λ (q : Position). fault_at NotUtf8 q.place) e

@@ -8,7 +8,7 @@ use Rattle.es_source.specs.Reading.Next.{Ends, Fails, Comes}
 use Rattle.es_source.specs.declared.faults.SourceFault.{SourceFault}
 use Rattle.es_source.specs.declared.token.Token.{Token}
 use Rattle.script_syntax.specs.Positions.{position_after}
-use Rattle.script_syntax.specs.Readings.{listed, Reads}
+use Rattle.script_syntax.specs.Readings.{listed, GivesReading}
 use Rattle.script_syntax.specs.Scanning.{step_of, IsStep, EndsAt}
 use Rattle.script_syntax.specs.declared.positions.Position.{Position}
 use Rattle.script_syntax.specs.declared.scanning.Found.{Found}
@@ -100,16 +100,16 @@ reached_next cs is_first all place (suc n) token at positive le e =
 
 reached_end : (cs : List ℕ) (is_first : Bool) (all : List Token) (place : ℕ) (p : Position) → Reached cs is_first all place
     → p ≡ position_after (take place cs ++ drop place cs)
-    → step_of is_first (take place cs) (drop place cs) (next_of (drop place cs)) ≡ Ok None → reading_of_characters cs ≡ Ok (listed all p.line p.column)
+    → step_of is_first (take place cs) (drop place cs) (next_of (drop place cs)) ≡ Ok None → reading_of_characters cs ≡ Ok (listed all p.place)
 reached_end cs is_first all place p at e end =
     let whole : tokens_from true [] (hashbang_length cs) cs ≡ Ok all =
     sym at.found ∙ ap (after_tokens all) (by_next is_first (take place cs) (drop place cs) ∙ at_end is_first (take place cs) (drop place cs) (next_of (drop place cs)) end)
     ∙ ap (λ xs. Ok xs) (append-nil all) in
     let ending : p ≡ position_after cs = e ∙ ap position_after (take-append-drop place cs) in
-    ap (with_ending (place_after cs)) whole ∙ sym (ap (λ (q : Position). Ok (listed all q.line q.column)) ending)
+    ap (with_ending (place_after cs)) whole ∙ sym (ap (λ (q : Position). Ok (listed all q.place)) ending)
 
 pub reached_stop : (cs : List ℕ) (is_first : Bool) (all : List Token) (place : ℕ) (rest : List ℕ) (stop : ReadStop) → Reached cs is_first all place → rest ≡ drop place cs
-    → IsStep (step_of is_first (take place cs) rest (next_of rest)) (Err stop) → Reads (reading_of_characters cs) (Err stop)
+    → IsStep (step_of is_first (take place cs) rest (next_of rest)) (Err stop) → GivesReading (reading_of_characters cs) (Err stop)
 reached_stop cs is_first all place rest (Fault fault) at same e =
     let before = take place cs in
     let step : step_of is_first before (drop place cs) (next_of (drop place cs)) ≡ Err fault = sym (ap (λ xs. step_of is_first before xs (next_of xs)) same) ∙ e in
@@ -128,7 +128,7 @@ said_next cs is_first all place rest found at same positive le e =
 
 pub said_end : (cs : List ℕ) (is_first : Bool) (all : List Token) (place : ℕ) (rest : List ℕ) (p : Position) → Reached cs is_first all place → rest ≡ drop place cs
     → p ≡ position_after (take place cs ++ rest) → IsStep (step_of is_first (take place cs) rest (next_of rest)) (Ok None)
-    → reading_of_characters cs ≡ Ok (listed all p.line p.column)
+    → reading_of_characters cs ≡ Ok (listed all p.place)
 said_end cs is_first all place rest p at same ending e =
     reached_end cs is_first all place p at (ending ∙ ap (λ xs. position_after (take place cs ++ xs)) same)
     (sym (ap (λ xs. step_of is_first (take place cs) xs (next_of xs)) same) ∙ e)

@@ -12,4 +12,4 @@ ends_in_return (c ∷ d ∷ cs) = ends_in_return (d ∷ cs)
 -- The place after these characters, with whether a CR stands directly before it.
 abbrev pub position_after : List ℕ → Position
 position_after before =
-    record { line = (place_after before).line; column = (place_after before).column; after_return = ends_in_return before }
+    record { place = place_after before; after_return = ends_in_return before }

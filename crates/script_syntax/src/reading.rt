@@ -4,13 +4,13 @@ ghost use Rattle.std.specs.Prelude.{◌≡◌, ◌<◌, ◌≤◌, ◌+◌, ◌*
 ghost use Rattle.es_source.specs.Places.{place_after};
 ghost use Rattle.es_source.specs.Reading.{fault_at, reading_of_characters, reading_of};
 ghost use Rattle.script_syntax.specs.Positions.{position_after};
-ghost use Rattle.script_syntax.specs.Readings.{Reads};
+ghost use Rattle.script_syntax.specs.Readings.{GivesReading};
 
 use crate::gaps::hashbang_length;
 use crate::positions::Position;
 use crate::scanning::next_token;
 use crate::token_list::Tokens;
-use es_source::{FaultCode, ReadStop, SourceFault, Token};
+use es_source::{FaultCode, Place, ReadStop, SourceFault, Token};
 use property_keys::NoMemory;
 use std::alloc::Global;
 
@@ -40,7 +40,7 @@ fn push_token(all: &mut Vec<Token>, token: Token) -> Result<(), NoMemory>
 /// The tokens of characters.
 fn tokens_of(alloc: Global, characters: &[char]) -> Result<Tokens, ReadStop>
     requires { length characters.now ≤ 2 ^ 22 }
-    ensures { Reads (reading_of_characters characters.now) result }
+    ensures { GivesReading (reading_of_characters characters.now) result }
 {
     let mut all = Vec::new(alloc);
     let mut is_first = true;
@@ -73,21 +73,19 @@ fn ill_formed(alloc: Global, front: &[u8]) -> Result<SourceFault, NoMemory>
     let position = Position::start().past(&characters);
     Ok(SourceFault {
         code: FaultCode::NotUtf8,
-        line: position.line,
-        column: position.column,
+        place: position.place,
     })
 }
 
 /// The tokens of bytes, or their first fault: TooLong at 1:1 where there are more than 2^22 bytes, else NotUtf8 at the first byte after
 /// the longest front that is UTF-8, else BadToken at the first place at which no token stands.
 pub fn tokens(alloc: Global, bytes: &[u8]) -> Result<Tokens, ReadStop>
-    ensures { Reads (reading_of bytes.now) result }
+    ensures { GivesReading (reading_of bytes.now) result }
 {
     if bytes.len() > MOST_BYTES {
         return Err(ReadStop::Fault(SourceFault {
             code: FaultCode::TooLong,
-            line: 1,
-            column: 1,
+            place: Place { line: 1, column: 1 },
         }));
     }
     match str::from_utf8(bytes) {

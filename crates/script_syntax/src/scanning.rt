@@ -30,8 +30,7 @@ fn bad_token(position: Position) -> ReadStop
 {
     ReadStop::Fault(SourceFault {
         code: FaultCode::BadToken,
-        line: position.line,
-        column: position.column,
+        place: position.place,
     })
 }
 
@@ -48,8 +47,8 @@ pub fn next_token(
     is_first: bool,
     position: Position,
 ) -> Result<Option<Found>, ReadStop>
-    requires line { position.line + length rest.now < 2 ^ 32 }
-    requires column { position.column + 4 * length rest.now < 2 ^ 32 }
+    requires line { position.place.line + length rest.now < 2 ^ 32 }
+    requires column { position.place.column + 4 * length rest.now < 2 ^ 32 }
     ensures step { (before : List ℕ) → position ≡ position_after before → IsStep (step_of is_first before rest.now (next_of rest.now)) result }
     ensures place { (before : List ℕ) → position ≡ position_after before → IfOk result (λ step. IfSome step (EndsAt before rest.now)) }
     ensures bound { IfOk result (λ step. IfSome step (λ found. (0 < found.size) × (found.size ≤ length rest.now))) }
@@ -70,8 +69,7 @@ pub fn next_token(
     };
     let token = Token {
         kind,
-        line: start.line,
-        column: start.column,
+        place: start.place,
         after_break: !is_first && has_break(gap),
     };
     let position = start.past(later.split_at(size).0);

@@ -1,16 +1,17 @@
+//! The list of tokens.
+
 ghost use Rattle.std.specs.Prelude.{◌≡◌, ◌<◌, List, length, slice_get, Some};
 ghost use Rattle.script_syntax.specs.Readings.{listed};
 
 use crate::positions::Position;
-use es_source::Token;
+use es_source::{Place, Token};
 use std::marker::Model;
 
 /// The tokens of a source in their order, and the place one past its last character. Only `tokens` makes them.
 #[derive(Drop)]
 pub struct Tokens {
     all: Vec<Token>,
-    last_line: u32,
-    last_column: u32,
+    end: Place,
 }
 
 impl Model for Tokens {
@@ -19,17 +20,16 @@ impl Model for Tokens {
 
     ghost Value = { Reading };
 
-    ghost view = { λ t. listed t.all.items t.last_line t.last_column };
+    ghost view = { λ t. listed t.all.items t.end };
 }
 
 impl Tokens {
     pub(crate) fn ending_at(all: Vec<Token>, position: Position) -> Tokens
-        ensures { result ≡ listed all.items position.line position.column }
+        ensures { result ≡ listed all.items position.place }
     {
         Tokens {
             all,
-            last_line: position.line,
-            last_column: position.column,
+            end: position.place,
         }
     }
 
@@ -48,11 +48,10 @@ impl Tokens {
         &self.all[i]
     }
 
-    /// The line and the column one past the last byte.
-    pub fn end(&self) -> (u32, u32)
-        ensures line { result.0 ≡ self.now.ending.line }
-        ensures column { result.1 ≡ self.now.ending.column }
+    /// The place one past the last byte.
+    pub fn end(&self) -> Place
+        ensures { result ≡ self.now.ending }
     {
-        (self.last_line, self.last_column)
+        self.end
     }
 }

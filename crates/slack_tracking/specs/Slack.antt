@@ -1,13 +1,10 @@
 -- The origins of objects: for each number what makes its objects, and its slack.
 use Rattle.std.specs.Prelude.{ℕ, suc, ◌+◌, ◌<◌, Bool, true, false, ◌&&◌, if◌then◌else◌, List, [], ◌∷◌, length, nat_eq, nat_lt, min, max, slice_index_or, slice_set}
 use Rattle.map_store.specs.declared.OriginId.{OriginId}
-use Rattle.slack_tracking.specs.declared.LiteralPlace.{LiteralPlace}
+use Rattle.es_source.specs.Places.{same_place}
 use Rattle.slack_tracking.specs.declared.OriginKind.{OriginKind}
 use Rattle.slack_tracking.specs.declared.OriginKind.TheVariants as origin
 use Rattle.slack_tracking.specs.declared.origins.Slack.{Slack}
-
-abbrev pub same_place : LiteralPlace → LiteralPlace → Bool
-same_place a b = nat_eq a.line b.line && nat_eq a.column b.column
 
 abbrev pub same_kind : OriginKind → OriginKind → Bool
 same_kind origin.Plain origin.Plain = true

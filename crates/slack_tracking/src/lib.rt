@@ -3,14 +3,8 @@
 
 mod origins;
 
+use es_source::Place;
 pub use origins::Origins;
-
-/// Where a literal or a function begins in the script: its line and its column, both from 1.
-#[derive(Clone, Copy, Debug, PartialEq, Eq)]
-pub struct LiteralPlace {
-    pub line: u32,
-    pub column: u32,
-}
 
 /// What makes the objects of an origin.
 #[derive(Clone, Copy, Debug, PartialEq, Eq)]
@@ -22,10 +16,10 @@ pub enum OriginKind {
     Arguments,
     Wrapper,
     Error,
-    /// An object literal of the script.
-    Literal(LiteralPlace),
-    /// A function of the script that constructs.
-    Constructor(LiteralPlace),
+    /// An object literal of the script, with the place at which it begins.
+    Literal(Place),
+    /// A function of the script that constructs, with the place at which it begins.
+    Constructor(Place),
 }
 
 #[cfg(test)]

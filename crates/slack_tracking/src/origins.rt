@@ -1,7 +1,9 @@
-ghost use Rattle.std.specs.Prelude.{◌≡◌, ◌↔◌, ◌<◌, [], length, IfOk, OnErr, OnOk, IsTrue};
-ghost use Rattle.slack_tracking.specs.Slack.{IsKnown, origin_at, origin_place, with_origin, with_fields, with_construction, falls, same_kind, same_place};
+//! Origins with their places.
 
-use crate::{LiteralPlace, OriginKind};
+ghost use Rattle.std.specs.Prelude.{◌≡◌, ◌↔◌, ◌<◌, [], length, IfOk, OnErr, OnOk, IsTrue};
+ghost use Rattle.slack_tracking.specs.Slack.{IsKnown, origin_at, origin_place, with_origin, with_fields, with_construction, falls, same_kind};
+
+use crate::OriginKind;
 use map_store::OriginId;
 use property_keys::NoMemory;
 use std::alloc::Global;
@@ -138,14 +140,8 @@ fn is_same_kind(a: OriginKind, b: OriginKind) -> bool
         | (OriginKind::Arguments, OriginKind::Arguments)
         | (OriginKind::Wrapper, OriginKind::Wrapper)
         | (OriginKind::Error, OriginKind::Error) => true,
-        (OriginKind::Literal(a), OriginKind::Literal(b)) => is_same_place(a, b),
-        (OriginKind::Constructor(a), OriginKind::Constructor(b)) => is_same_place(a, b),
+        (OriginKind::Literal(a), OriginKind::Literal(b)) => a.is_same(b),
+        (OriginKind::Constructor(a), OriginKind::Constructor(b)) => a.is_same(b),
         _ => false,
     }
-}
-
-fn is_same_place(a: LiteralPlace, b: LiteralPlace) -> bool
-    ensures { result ≡ same_place a b }
-{
-    a.line == b.line && a.column == b.column
 }

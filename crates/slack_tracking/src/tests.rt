@@ -1,6 +1,7 @@
 //! Calls with their answers, worked out by hand.
 
 use crate::*;
+use es_source::Place;
 use map_store::OriginId;
 use property_keys::NoMemory;
 use std::test::Fail;
@@ -25,11 +26,11 @@ enum Answer {
 
 use Answer::{Done, Fell, Number};
 
-const LITERAL: OriginKind = OriginKind::Literal(LiteralPlace { line: 3, column: 9 });
+const LITERAL: OriginKind = OriginKind::Literal(Place { line: 3, column: 9 });
 
-const BELOW: OriginKind = OriginKind::Literal(LiteralPlace { line: 4, column: 9 });
+const BELOW: OriginKind = OriginKind::Literal(Place { line: 4, column: 9 });
 
-const CONSTRUCTOR: OriginKind = OriginKind::Constructor(LiteralPlace { line: 3, column: 9 });
+const CONSTRUCTOR: OriginKind = OriginKind::Constructor(Place { line: 3, column: 9 });
 
 /// Origin 0 uses two of its four places, origin 1 more than its six, and origin 3 all of its one.
 const ROWS: [(Call, Answer); 43] = [

@@ -1,3 +1,5 @@
+//! A block of raw words.
+
 ghost use Rattle.std.specs.Prelude.{◌≡◌, ◌+◌, ◌-◌, ◌<◌, ◌≤◌, ◌^◌, ◌++◌, length, replicate, slice_index, slice_set, IfOk, OnErr, OnOk};
 ghost use Rattle.property_keys.specs.Counts.{counted};
 ghost use Rattle.slot_storage.specs.Steps.{counted_times};

@@ -1,3 +1,5 @@
+//! Words at both ends of blocks.
+
 use crate::Block;
 use property_keys::{Counting, Ledger, NoMemory, Steps};
 use std::alloc::Global;

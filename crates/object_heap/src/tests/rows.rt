@@ -3,9 +3,10 @@
 use super::steps::{Beside, Change, Key, Make, Read, Step, Texts, Which, Words};
 use descriptors::{Complete, Descriptor};
 use es_model::{CellNo, Class, ErrorKind, Intrinsic, StartText, WellKnown};
+use es_source::Place;
 use map_store::OriginId;
 use property_keys::{Attributes, Value};
-use slack_tracking::{LiteralPlace, OriginKind};
+use slack_tracking::OriginKind;
 
 const ONE: Value = Value::Whole(1);
 
@@ -70,7 +71,7 @@ const STORED_TWO: Complete = Complete::Stored {
     },
 };
 
-const HERE: LiteralPlace = LiteralPlace { line: 2, column: 5 };
+const HERE: Place = Place { line: 2, column: 5 };
 
 pub(crate) static BESIDE: [Step; 33] = [
     // a text that is there has its number, and a new one goes last

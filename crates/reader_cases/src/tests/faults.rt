@@ -5,7 +5,7 @@ use super::grammar_faults::GRAMMAR_FAULTS;
 use super::reading::{parsed, read};
 use super::rule_faults::{FAULTLESS, RULE_FAULTS};
 use super::token_faults::TOKEN_FAULTS;
-use es_source::{FaultCode, ReadStop, SourceFault};
+use es_source::{FaultCode, Place, ReadStop, SourceFault};
 use std::alloc::Global;
 
 /// A source and its first fault: the code, the line and the column.
@@ -17,8 +17,10 @@ pub struct ByteFault(pub &'static [u8], pub FaultCode, pub u32, pub u32);
 fn has_fault(alloc: Global, source: &[u8], code: FaultCode, place: (u32, u32)) -> bool {
     let fault = SourceFault {
         code,
-        line: place.0,
-        column: place.1,
+        place: Place {
+            line: place.0,
+            column: place.1,
+        },
     };
     match read(alloc, source) {
         Ok(_) => false,

@@ -2,7 +2,7 @@
 //! parenthesis, prefix operator, function or block around it adds one.
 
 use super::reading::parsed;
-use es_source::{FaultCode, ReadStop, SourceFault};
+use es_source::{FaultCode, Place, ReadStop, SourceFault};
 use script_syntax::tokens;
 use std::alloc::Global;
 use std::test::Fail;
@@ -38,12 +38,15 @@ fn wrapped(
     Ok(parsed(alloc, &source).map(|_| ()))
 }
 
+fn on_first_line(column: u32) -> Place {
+    Place { line: 1, column }
+}
+
 /// A fault on the first line.
 fn fault(code: FaultCode, column: u32) -> ReadStop {
     ReadStop::Fault(SourceFault {
         code,
-        line: 1,
-        column,
+        place: on_first_line(column),
     })
 }
 
@@ -132,7 +135,7 @@ fn long(
     first: &[u8],
     part: (&[u8], usize),
     last: &[u8],
-) -> Result<Result<(usize, (u32, u32)), ReadStop>, Fail> {
+) -> Result<Result<(usize, Place), ReadStop>, Fail> {
     let source = repeated(alloc, first, part, last)?;
     Ok(tokens(alloc, &source).map(|all| (all.len(), all.end())))
 }
@@ -142,7 +145,10 @@ fn length_of_a_source(rt: HostRuntime) -> Result<(), Fail> {
     let alloc = rt.alloc();
     // 2^22 bytes
     let most = (SPACES.as_slice(), 4096);
-    assert_eq!(rt; long(alloc, b"", most, b"")?, Ok((0, (1, 4_194_305))));
+    assert_eq!(rt;
+        long(alloc, b"", most, b"")?,
+        Ok((0, on_first_line(4_194_305)))
+    );
     let too_long = Err(fault(FaultCode::TooLong, 1));
     assert_eq!(rt; long(alloc, b"", most, b" ")?, too_long);
     assert_eq!(rt; long(alloc, b"", most, b"\xFF")?, too_long);
@@ -155,9 +161,15 @@ fn length_of_a_text_or_name(rt: HostRuntime) -> Result<(), Fail> {
     // 2^20 code units
     let most = (LETTERS.as_slice(), 1024);
     let too_long = Err(fault(FaultCode::BadToken, 1));
-    assert_eq!(rt; long(alloc, b"'", most, b"'")?, Ok((1, (1, 1_048_579))));
+    assert_eq!(rt;
+        long(alloc, b"'", most, b"'")?,
+        Ok((1, on_first_line(1_048_579)))
+    );
     assert_eq!(rt; long(alloc, b"'", most, b"a'")?, too_long);
-    assert_eq!(rt; long(alloc, b"", most, b"")?, Ok((1, (1, 1_048_577))));
+    assert_eq!(rt;
+        long(alloc, b"", most, b"")?,
+        Ok((1, on_first_line(1_048_577)))
+    );
     assert_eq!(rt; long(alloc, b"", most, b"a")?, too_long);
     Ok(())
 }

@@ -1,7 +1,7 @@
 //! The trees of the grammar in a printed form: a node's label, then its parts, in brackets. The numbers in the labels are those of tokens, from 0.
 
 use super::reading::parsed;
-use script_grammar::{Node, Script};
+use script_grammar::{ParseNode, Script};
 use std::alloc::Global;
 use std::test::Fail;
 
@@ -177,25 +177,25 @@ fn part(texts: &[String], n: u32) -> &str {
     }
 }
 
-fn node_text(alloc: Global, node: Node, texts: &[String]) -> Result<String, Fail> {
+fn node_text(alloc: Global, node: ParseNode, texts: &[String]) -> Result<String, Fail> {
     Ok(match node {
-        Node::Atom(label) => format!(in alloc; "{label:?}")?,
-        Node::Wrap(label, x) => {
+        ParseNode::Atom(label) => format!(in alloc; "{label:?}")?,
+        ParseNode::Wrap(label, x) => {
             let x = part(texts, x);
             format!(in alloc; "({label:?} {x})")?
         }
-        Node::Pair(label, x, y) => {
+        ParseNode::Pair(label, x, y) => {
             let x = part(texts, x);
             let y = part(texts, y);
             format!(in alloc; "({label:?} {x} {y})")?
         }
-        Node::Triple(label, x, y, z) => {
+        ParseNode::Triple(label, x, y, z) => {
             let x = part(texts, x);
             let y = part(texts, y);
             let z = part(texts, z);
             format!(in alloc; "({label:?} {x} {y} {z})")?
         }
-        Node::Quad(label, x, y, z, w) => {
+        ParseNode::Quad(label, x, y, z, w) => {
             let x = part(texts, x);
             let y = part(texts, y);
             let z = part(texts, z);

@@ -6,7 +6,7 @@ ghost use Rattle.script_rules.specs.Splits.{Splits};
 
 use super::reading::parsed;
 use es_tree::Binding;
-use script_grammar::{Node, Pair, Script};
+use script_grammar::{Pair, ParseNode, Script};
 use script_rules::{
     Declared, Manner, Resolved, ScopeId, Scopes, declared_by, declared_in, declared_in_block,
     function_scope, members, own_units_at, parameters_in, part, part_scope, script_scope,
@@ -32,7 +32,7 @@ fn split(script: &Script, list: u32) -> Option<(u32, u32)>
     ensures { Splits script.now.nodes list result }
 {
     match part(script, list) {
-        Node::Pair(Pair::And, front, last) => Some((front, last)),
+        ParseNode::Pair(Pair::And, front, last) => Some((front, last)),
         _ => None,
     }
 }
@@ -75,7 +75,8 @@ fn check_function(
 ) -> Result<(), Fail>
     requires { IsPart script.now.nodes function }
 {
-    let Node::Pair(Pair::DeclaredFunction { .. }, parameters, body) = part(script, function) else {
+    let ParseNode::Pair(Pair::DeclaredFunction { .. }, parameters, body) = part(script, function)
+    else {
         panic!(rt; "no function");
     };
     let wanted = [

@@ -1,6 +1,6 @@
 //! The tokens of sources.
 
-use es_source::{Token, TokenKind};
+use es_source::{Place, Token, TokenKind};
 use property_keys::Units;
 use script_syntax::tokens;
 
@@ -19,14 +19,42 @@ struct Seen(Wanted, u32, u32, bool);
 struct Good {
     source: &'static str,
     tokens: &'static [Seen],
-    end: (u32, u32),
+    end: Place,
 }
 
 static GOOD: &[Good] = &[
     Good {
         source: "",
         tokens: &[],
-        end: (1, 1),
+        end: Place { line: 1, column: 1 },
+    },
+    // the script that docs/TOKENS.md, GRAMMAR.md and TREE.md go through
+    Good {
+        source: "let o = {};\no.a = 7\nprint(o.a);",
+        tokens: &[
+            Seen(Wanted::Name("let"), 1, 1, false),
+            Seen(Wanted::Name("o"), 1, 5, false),
+            Seen(Wanted::Punctuator("="), 1, 7, false),
+            Seen(Wanted::Punctuator("{"), 1, 9, false),
+            Seen(Wanted::Punctuator("}"), 1, 10, false),
+            Seen(Wanted::Punctuator(";"), 1, 11, false),
+            Seen(Wanted::Name("o"), 2, 1, true),
+            Seen(Wanted::Punctuator("."), 2, 2, false),
+            Seen(Wanted::Name("a"), 2, 3, false),
+            Seen(Wanted::Punctuator("="), 2, 5, false),
+            Seen(Wanted::Number(7), 2, 7, false),
+            Seen(Wanted::Name("print"), 3, 1, true),
+            Seen(Wanted::Punctuator("("), 3, 6, false),
+            Seen(Wanted::Name("o"), 3, 7, false),
+            Seen(Wanted::Punctuator("."), 3, 8, false),
+            Seen(Wanted::Name("a"), 3, 9, false),
+            Seen(Wanted::Punctuator(")"), 3, 10, false),
+            Seen(Wanted::Punctuator(";"), 3, 11, false),
+        ],
+        end: Place {
+            line: 3,
+            column: 12,
+        },
     },
     // the script that docs/TOKENS.md, GRAMMAR.md and TREE.md go through
     Good {
@@ -59,7 +87,7 @@ static GOOD: &[Good] = &[
             Seen(Wanted::Name("a"), 1, 1, false),
             Seen(Wanted::Name("b"), 2, 1, true),
         ],
-        end: (2, 2),
+        end: Place { line: 2, column: 2 },
     },
     Good {
         source: "$_9 \u{4E00}\u{200D}z",
@@ -67,7 +95,10 @@ static GOOD: &[Good] = &[
             Seen(Wanted::Name("$_9"), 1, 1, false),
             Seen(Wanted::Name("\u{4E00}\u{200D}z"), 1, 5, false),
         ],
-        end: (1, 12),
+        end: Place {
+            line: 1,
+            column: 12,
+        },
     },
     Good {
         source: "x/* \r\n */y",
@@ -75,7 +106,7 @@ static GOOD: &[Good] = &[
             Seen(Wanted::Name("x"), 1, 1, false),
             Seen(Wanted::Name("y"), 2, 4, true),
         ],
-        end: (2, 5),
+        end: Place { line: 2, column: 5 },
     },
     Good {
         source: "a//c\u{2028}b",
@@ -83,7 +114,7 @@ static GOOD: &[Good] = &[
             Seen(Wanted::Name("a"), 1, 1, false),
             Seen(Wanted::Name("b"), 2, 1, true),
         ],
-        end: (2, 2),
+        end: Place { line: 2, column: 2 },
     },
     Good {
         source: "a/**/b/*/*/ c",
@@ -92,7 +123,10 @@ static GOOD: &[Good] = &[
             Seen(Wanted::Name("b"), 1, 6, false),
             Seen(Wanted::Name("c"), 1, 13, false),
         ],
-        end: (1, 14),
+        end: Place {
+            line: 1,
+            column: 14,
+        },
     },
     Good {
         source: "#!x\ra \u{2029}\u{FEFF}if",
@@ -100,7 +134,7 @@ static GOOD: &[Good] = &[
             Seen(Wanted::Name("a"), 2, 1, false),
             Seen(Wanted::Name("if"), 3, 4, true),
         ],
-        end: (3, 6),
+        end: Place { line: 3, column: 6 },
     },
     Good {
         source: "0 9 10 0x1F 0O17 0b101 0x0001 9007199254740991",
@@ -114,7 +148,10 @@ static GOOD: &[Good] = &[
             Seen(Wanted::Number(1), 1, 24, false),
             Seen(Wanted::Number(9_007_199_254_740_991), 1, 31, false),
         ],
-        end: (1, 47),
+        end: Place {
+            line: 1,
+            column: 47,
+        },
     },
     Good {
         source: "'\\b\\t\\n\\v\\f\\r\\0\\x4a\\u0042\\u{0043}\\q\\'\"'",
@@ -124,7 +161,10 @@ static GOOD: &[Good] = &[
             1,
             false,
         )],
-        end: (1, 40),
+        end: Place {
+            line: 1,
+            column: 40,
+        },
     },
     Good {
         source: "'a\\\r\nb\\\u{2029}c'd",
@@ -132,7 +172,7 @@ static GOOD: &[Good] = &[
             Seen(Wanted::Text(&[97, 98, 99]), 1, 1, false),
             Seen(Wanted::Name("d"), 3, 3, false),
         ],
-        end: (3, 4),
+        end: Place { line: 3, column: 4 },
     },
     Good {
         source: "\"\u{2028}\"x",
@@ -140,7 +180,7 @@ static GOOD: &[Good] = &[
             Seen(Wanted::Text(&[0x2028]), 1, 1, false),
             Seen(Wanted::Name("x"), 2, 2, false),
         ],
-        end: (2, 3),
+        end: Place { line: 2, column: 3 },
     },
     Good {
         source: "'\\uD83D\\uDE00\\u{1F600}\u{1F600}\\\u{1F600}\\u{D800}'",
@@ -152,7 +192,10 @@ static GOOD: &[Good] = &[
             1,
             false,
         )],
-        end: (1, 41),
+        end: Place {
+            line: 1,
+            column: 41,
+        },
     },
     Good {
         source: "'use strict'\"use strict\"'use\\x20strict'",
@@ -166,7 +209,10 @@ static GOOD: &[Good] = &[
                 false,
             ),
         ],
-        end: (1, 40),
+        end: Place {
+            line: 1,
+            column: 40,
+        },
     },
     Good {
         source: "a===b!==c>>=",
@@ -179,7 +225,10 @@ static GOOD: &[Good] = &[
             Seen(Wanted::Punctuator(">"), 1, 10, false),
             Seen(Wanted::Punctuator(">="), 1, 11, false),
         ],
-        end: (1, 13),
+        end: Place {
+            line: 1,
+            column: 13,
+        },
     },
     Good {
         source: "...1?.x&&=--->",
@@ -195,7 +244,10 @@ static GOOD: &[Good] = &[
             Seen(Wanted::Punctuator("-"), 1, 13, false),
             Seen(Wanted::Punctuator(">"), 1, 14, false),
         ],
-        end: (1, 15),
+        end: Place {
+            line: 1,
+            column: 15,
+        },
     },
     Good {
         source: "{ } ( ) [ ] . ... ; , < > <= >= == != === !== + - * % ++ -- ! && || ?? ? : = += -= *= %= =>",
@@ -237,7 +289,10 @@ static GOOD: &[Good] = &[
             Seen(Wanted::Punctuator("%="), 1, 87, false),
             Seen(Wanted::Punctuator("=>"), 1, 90, false),
         ],
-        end: (1, 92),
+        end: Place {
+            line: 1,
+            column: 92,
+        },
     },
 ];
 
@@ -279,8 +334,8 @@ fn is_wanted(kind: &TokenKind, wanted: &Wanted) -> bool {
 
 fn is_seen(token: &Token, seen: &Seen) -> bool {
     is_wanted(&token.kind, &seen.0)
-        && token.line == seen.1
-        && token.column == seen.2
+        && token.place.line == seen.1
+        && token.place.column == seen.2
         && token.after_break == seen.3
 }
 

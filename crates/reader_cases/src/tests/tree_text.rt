@@ -62,8 +62,7 @@ fn push_function_line(out: &mut String, tree: &Checked, f: FunctionNo) -> Result
 
 fn push_function_facts(out: &mut String, facts: &FunctionFacts) -> Result<(), AllocError> {
     let FunctionFacts {
-        line,
-        column,
+        place: Place { line, column },
         parameters,
         this_names,
         constructor,
@@ -80,8 +79,7 @@ fn push_function_facts(out: &mut String, facts: &FunctionFacts) -> Result<(), Al
 fn push_literals(out: &mut String, tree: &Checked) -> Result<(), AllocError> {
     for number in 0..tree.literals() {
         let LiteralFacts {
-            line,
-            column,
+            place: Place { line, column },
             definitions,
         } = *tree.literal(LiteralNo(number));
         write!(
@@ -95,8 +93,7 @@ fn push_literals(out: &mut String, tree: &Checked) -> Result<(), AllocError> {
 fn push_sites(out: &mut String, tree: &Checked) -> Result<(), AllocError> {
     for number in 0..tree.sites() {
         let SiteFacts {
-            line,
-            column,
+            place: Place { line, column },
             write,
         } = *tree.site(SiteId(number));
         let access = if write { "write" } else { "read" };

@@ -1,7 +1,7 @@
 //! Expressions (ECMA-262, clause 13): what the first token of a part puts on the stacks.
 
 ghost use Rattle.std.specs.Prelude.{◌≡◌, ◌++◌, ◌∷◌, suc, Bool, reverse, OnOk, IfOk};
-ghost use Rattle.script_grammar.specs.Machine as m;
+ghost use Rattle.script_grammar.specs.Machine as grammar_machine;
 ghost use Rattle.script_parser.specs.State.{Moves, State, numbers, stack, state};
 
 use super::Parser;
@@ -61,7 +61,7 @@ impl Parser {
     }
 
     pub(super) fn primary(&mut self, depth: u32, x: Sign) -> Result<Option<u32>, NoMemory>
-        ensures { Moves self.old self.new result (m.at_primary State numbers depth (stack self.old) (state self.old) x) }
+        ensures { Moves self.old self.new result (grammar_machine.at_primary State numbers depth (stack self.old) (state self.old) x) }
     {
         let Sign::Token { kind, number, .. } = x else {
             return Ok(None);
@@ -91,7 +91,7 @@ impl Parser {
 
     /// A primary expression that begins with a reserved word.
     fn primary_word(&mut self, depth: u32, word: Word, number: u32) -> Result<Option<u32>, NoMemory>
-        ensures { (after_break : Bool) → Moves self.old self.new result (m.at_primary State numbers depth (stack self.old) (state self.old) (Sign.Token (Kind.Word word) number after_break)) }
+        ensures { (after_break : Bool) → Moves self.old self.new result (grammar_machine.at_primary State numbers depth (stack self.old) (state self.old) (Sign.Token (Kind.Word word) number after_break)) }
     {
         match word {
             Word::This => self.atom(depth, Atom::This(number)),
@@ -118,7 +118,7 @@ impl Parser {
 
     /// `this`, a name, a literal, or what a bracket, `function` or `new` begins, with the members, calls and updates behind it.
     fn left(&mut self, depth: u32, x: Sign) -> Result<Option<u32>, NoMemory>
-        ensures { Moves self.old self.new result (m.at_left State numbers depth (stack self.old) (state self.old) x) }
+        ensures { Moves self.old self.new result (grammar_machine.at_left State numbers depth (stack self.old) (state self.old) x) }
     {
         self.expect(&[
             Symbol::Tail(Tail::Update, depth),
@@ -128,7 +128,7 @@ impl Parser {
     }
 
     pub(super) fn unary(&mut self, depth: u32, x: Sign) -> Result<Option<u32>, NoMemory>
-        ensures { Moves self.old self.new result (m.at_unary State numbers depth (stack self.old) (state self.old) x) }
+        ensures { Moves self.old self.new result (grammar_machine.at_unary State numbers depth (stack self.old) (state self.old) x) }
     {
         let Sign::Token { kind, number, .. } = x else {
             return Ok(None);
@@ -162,7 +162,7 @@ impl Parser {
     fn expect_below(&mut self, level: Level, plain: bool, depth: u32) -> Result<(), NoMemory>
         ensures apart { self.new.symbols ≡ self.old.symbols }
         ensures state { state self.new ≡ state self.old }
-        ensures stack { OnOk result (stack self.new ≡ m.below level plain depth (stack self.old)) }
+        ensures stack { OnOk result (stack self.new ≡ grammar_machine.below level plain depth (stack self.old)) }
     {
         let and = level_tail(Level::And, plain, depth);
         let equal = level_tail(Level::Equal, plain, depth);
@@ -186,7 +186,7 @@ impl Parser {
         depth: u32,
         x: Sign,
     ) -> Result<Option<u32>, NoMemory>
-        ensures { Moves self.old self.new result (m.at_operand State numbers level plain depth (stack self.old) (state self.old) x) }
+        ensures { Moves self.old self.new result (grammar_machine.at_operand State numbers level plain depth (stack self.old) (state self.old) x) }
     {
         self.expect_below(level, plain, depth)?;
         self.unary(depth, x)
@@ -198,7 +198,7 @@ impl Parser {
         depth: u32,
         x: Sign,
     ) -> Result<Option<u32>, NoMemory>
-        ensures { Moves self.old self.new result (m.at_assign State numbers plain depth (stack self.old) (state self.old) x) }
+        ensures { Moves self.old self.new result (grammar_machine.at_assign State numbers plain depth (stack self.old) (state self.old) x) }
     {
         let inner = deeper(depth)?;
         self.expect(&[
@@ -216,7 +216,7 @@ impl Parser {
         depth: u32,
         x: Sign,
     ) -> Result<Option<u32>, NoMemory>
-        ensures { Moves self.old self.new result (m.at_expr State numbers plain depth (stack self.old) (state self.old) x) }
+        ensures { Moves self.old self.new result (grammar_machine.at_expr State numbers plain depth (stack self.old) (state self.old) x) }
     {
         self.expect(&[Symbol::Tail(Tail::Expression(plain), depth)])?;
         self.assign(plain, depth, x)

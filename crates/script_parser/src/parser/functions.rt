@@ -1,7 +1,7 @@
 //! Functions, object literals and catch clauses (ECMA-262, 13.2.5, 14.15 and clause 15).
 
 ghost use Rattle.std.specs.Prelude.{◌≡◌, ◌++◌, ◌∷◌, suc, Bool, false, true, reverse, OnOk, IfOk};
-ghost use Rattle.script_grammar.specs.Machine as m;
+ghost use Rattle.script_grammar.specs.Machine as grammar_machine;
 ghost use Rattle.script_parser.specs.State.{Moves, State, numbers, stack, state, some_of};
 
 use super::Parser;
@@ -15,7 +15,7 @@ use script_grammar::{
 
 impl Parser {
     pub(super) fn parameters(&mut self, depth: u32, x: Sign) -> Result<Option<u32>, NoMemory>
-        ensures { Moves self.old self.new result (m.at_params State numbers depth (stack self.old) (state self.old) x) }
+        ensures { Moves self.old self.new result (grammar_machine.at_params State numbers depth (stack self.old) (state self.old) x) }
     {
         let Sign::Token {
             kind: Kind::Bracket(Bracket::Open),
@@ -29,7 +29,7 @@ impl Parser {
     }
 
     pub(super) fn parameter(&mut self, depth: u32, x: Sign) -> Result<Option<u32>, NoMemory>
-        ensures { Moves self.old self.new result (m.at_param State numbers depth (stack self.old) (state self.old) x) }
+        ensures { Moves self.old self.new result (grammar_machine.at_param State numbers depth (stack self.old) (state self.old) x) }
     {
         match x {
             Sign::Token {
@@ -42,7 +42,7 @@ impl Parser {
     }
 
     pub(super) fn body(&mut self, depth: u32, x: Sign) -> Result<Option<u32>, NoMemory>
-        ensures { Moves self.old self.new result (m.at_body State numbers depth (stack self.old) (state self.old) x) }
+        ensures { Moves self.old self.new result (grammar_machine.at_body State numbers depth (stack self.old) (state self.old) x) }
     {
         let Sign::Token {
             kind: Kind::Bracket(Bracket::BraceOpen),
@@ -77,7 +77,7 @@ impl Parser {
         depth: u32,
         x: Sign,
     ) -> Result<Option<u32>, NoMemory>
-        ensures { Moves self.old self.new result (m.function_name State numbers first depth (stack self.old) (state self.old) x) }
+        ensures { Moves self.old self.new result (grammar_machine.function_name State numbers first depth (stack self.old) (state self.old) x) }
     {
         match x {
             Sign::Token {
@@ -102,7 +102,7 @@ impl Parser {
         depth: u32,
         x: Sign,
     ) -> Result<Option<u32>, NoMemory>
-        ensures { Moves self.old self.new result (m.after_function State numbers first depth (stack self.old) (state self.old) x) }
+        ensures { Moves self.old self.new result (grammar_machine.after_function State numbers first depth (stack self.old) (state self.old) x) }
     {
         match x {
             Sign::Token {
@@ -128,7 +128,7 @@ impl Parser {
 
     /// The name of a property.
     fn key(&mut self, depth: u32, x: Sign) -> Result<Option<u32>, NoMemory>
-        ensures { Moves self.old self.new result (m.at_key State numbers depth (stack self.old) (state self.old) x) }
+        ensures { Moves self.old self.new result (grammar_machine.at_key State numbers depth (stack self.old) (state self.old) x) }
     {
         let Sign::Token { kind, number, .. } = x else {
             return Ok(None);
@@ -150,7 +150,7 @@ impl Parser {
 
     /// A property definition.
     pub(super) fn property(&mut self, depth: u32, x: Sign) -> Result<Option<u32>, NoMemory>
-        ensures { Moves self.old self.new result (m.at_prop State numbers depth (stack self.old) (state self.old) x) }
+        ensures { Moves self.old self.new result (grammar_machine.at_prop State numbers depth (stack self.old) (state self.old) x) }
     {
         match x {
             Sign::Token {
@@ -170,7 +170,7 @@ impl Parser {
 
     /// Behind the `:` of a property definition.
     fn property_value(&mut self, depth: u32) -> Result<u32, NoMemory>
-        ensures { Moves self.old self.new (some_of result) (m.after_key State numbers depth (stack self.old) (state self.old) (Sign.Token (Kind.Mark Mark.Colon) 0 false)) }
+        ensures { Moves self.old self.new (some_of result) (grammar_machine.after_key State numbers depth (stack self.old) (state self.old) (Sign.Token (Kind.Mark Mark.Colon) 0 false)) }
     {
         self.expect(&[
             Symbol::Do(Act::Pair(Pair::Property)),
@@ -181,7 +181,7 @@ impl Parser {
 
     /// Behind the `(` of a method.
     fn method(&mut self, depth: u32) -> Result<u32, NoMemory>
-        ensures { Moves self.old self.new (some_of result) (m.after_key State numbers depth (stack self.old) (state self.old) (Sign.Token (Kind.Bracket Bracket.Open) 0 false)) }
+        ensures { Moves self.old self.new (some_of result) (grammar_machine.after_key State numbers depth (stack self.old) (state self.old) (Sign.Token (Kind.Bracket Bracket.Open) 0 false)) }
     {
         let inner = deeper(depth)?;
         self.begin_list(&[
@@ -194,7 +194,7 @@ impl Parser {
 
     /// Behind the name of a property.
     pub(super) fn after_key(&mut self, depth: u32, x: Sign) -> Result<Option<u32>, NoMemory>
-        ensures { Moves self.old self.new result (m.after_key State numbers depth (stack self.old) (state self.old) x) }
+        ensures { Moves self.old self.new result (grammar_machine.after_key State numbers depth (stack self.old) (state self.old) x) }
     {
         match x {
             Sign::Token {
@@ -217,7 +217,7 @@ impl Parser {
         depth: u32,
         x: Sign,
     ) -> Result<Option<u32>, NoMemory>
-        ensures { Moves self.old self.new result (m.at_accessor State numbers role first depth (stack self.old) (state self.old) x) }
+        ensures { Moves self.old self.new result (grammar_machine.at_accessor State numbers role first depth (stack self.old) (state self.old) x) }
     {
         match role {
             NameRole::Get => {
@@ -250,7 +250,7 @@ impl Parser {
         depth: u32,
         x: Sign,
     ) -> Result<Option<u32>, NoMemory>
-        ensures { Moves self.old self.new result (m.after_prop State numbers role name depth (stack self.old) (state self.old) x) }
+        ensures { Moves self.old self.new result (grammar_machine.after_prop State numbers role name depth (stack self.old) (state self.old) x) }
     {
         match x {
             Sign::Token {
@@ -278,7 +278,7 @@ impl Parser {
         depth: u32,
         x: Sign,
     ) -> Result<Option<u32>, NoMemory>
-        ensures { Moves self.old self.new result (m.setter_name State numbers first depth (stack self.old) (state self.old) x) }
+        ensures { Moves self.old self.new result (grammar_machine.setter_name State numbers first depth (stack self.old) (state self.old) x) }
     {
         let Sign::Token {
             kind: Kind::Name(_),
@@ -306,7 +306,7 @@ impl Parser {
         depth: u32,
         x: Sign,
     ) -> Result<Option<u32>, NoMemory>
-        ensures { Moves self.old self.new result (m.after_try State numbers first depth (stack self.old) (state self.old) x) }
+        ensures { Moves self.old self.new result (grammar_machine.after_try State numbers first depth (stack self.old) (state self.old) x) }
     {
         match x {
             Sign::Token {
@@ -330,7 +330,7 @@ impl Parser {
 
     /// Behind a `catch`: its parameter or its block.
     pub(super) fn after_catch(&mut self, depth: u32, x: Sign) -> Result<Option<u32>, NoMemory>
-        ensures { Moves self.old self.new result (m.after_catch State numbers depth (stack self.old) (state self.old) x) }
+        ensures { Moves self.old self.new result (grammar_machine.after_catch State numbers depth (stack self.old) (state self.old) x) }
     {
         match x {
             Sign::Token {
@@ -349,7 +349,7 @@ impl Parser {
 
     /// The parameter of a `catch`.
     pub(super) fn catch_name(&mut self, depth: u32, x: Sign) -> Result<Option<u32>, NoMemory>
-        ensures { Moves self.old self.new result (m.catch_name State numbers depth (stack self.old) (state self.old) x) }
+        ensures { Moves self.old self.new result (grammar_machine.catch_name State numbers depth (stack self.old) (state self.old) x) }
     {
         let Sign::Token {
             kind: Kind::Name(_),

@@ -1,7 +1,7 @@
 //! What is left alone at a token, and the symbol that takes it.
 
 ghost use Rattle.std.specs.Prelude.{◌≡◌, ◌++◌, ◌∷◌, [], false, reverse, OnOk, IfOk, IfNone, option_to_list};
-ghost use Rattle.script_grammar.specs.Machine as m;
+ghost use Rattle.script_grammar.specs.Machine as grammar_machine;
 ghost use Rattle.script_parser.specs.Settling as settling;
 ghost use Rattle.script_parser.specs.State.{Moves, State, numbers, stack, state};
 ghost use Rattle.script_parser.specs.Progress.{Firm, Loosened, Settled, Shifted, Tried};
@@ -26,7 +26,7 @@ impl Parser {
 
     /// Whether what may go on may be left alone.
     fn may_leave(&self, loose: Loose) -> bool
-        ensures { result ≡ m.may_leave State numbers loose (state self.now) }
+        ensures { result ≡ grammar_machine.may_leave State numbers loose (state self.now) }
     {
         match loose {
             Loose::Target => self.has_target(),
@@ -38,7 +38,7 @@ impl Parser {
     /// The work of what is left alone.
     fn leave(&mut self, loose: Loose) -> Result<(), NoMemory>
         ensures stack { stack self.new ≡ stack self.old }
-        ensures left { OnOk result (state self.new ≡ m.leave State numbers loose (state self.old)) }
+        ensures left { OnOk result (state self.new ≡ grammar_machine.leave State numbers loose (state self.old)) }
     {
         match loose {
             Loose::Items(_) | Loose::Target => Ok(()),
@@ -110,7 +110,7 @@ impl Parser {
     /// Takes the token at a symbol that is not left alone, and that is off the stack.
     fn take(&mut self, top: Symbol, x: Sign) -> Result<Option<u32>, NoMemory>
         requires { settling.loose State numbers top (state self.old) x ≡ false }
-        ensures { Moves self.old self.new result (m.step State numbers (top ∷ stack self.old) (state self.old) x) }
+        ensures { Moves self.old self.new result (grammar_machine.step State numbers (top ∷ stack self.old) (state self.old) x) }
     {
         match top {
             Symbol::Part(part, depth) => self.part(part, depth, x),

@@ -2,7 +2,7 @@
 
 ghost use Rattle.std.specs.Prelude.{◌≡◌};
 ghost use Rattle.script_grammar.specs.Grammar as grammar;
-ghost use Rattle.script_grammar.specs.Machine as m;
+ghost use Rattle.script_grammar.specs.Machine as grammar_machine;
 
 use super::operators::{is_in, is_key, level_of};
 use es_tree::{AssignOperator, BinaryOperator, ShortOperator};
@@ -25,7 +25,7 @@ pub(super) fn is_end(head: bool, x: Sign) -> bool
 }
 
 fn level_rank(level: Level) -> u32
-    ensures { result ≡ m.level_rank level }
+    ensures { result ≡ grammar_machine.level_rank level }
 {
     match level {
         Level::Multiply => 3,
@@ -39,7 +39,7 @@ fn level_rank(level: Level) -> u32
 
 /// The level of the tail that a token belongs to, and 13 where it belongs to none.
 pub(super) fn reach(x: Sign) -> u32
-    ensures { result ≡ m.reach x }
+    ensures { result ≡ grammar_machine.reach x }
 {
     let Sign::Token {
         kind,
@@ -64,7 +64,7 @@ pub(super) fn reach(x: Sign) -> u32
 }
 
 fn rank(tail: Tail) -> u32
-    ensures { result ≡ m.rank tail }
+    ensures { result ≡ grammar_machine.rank tail }
 {
     match tail {
         Tail::Left => 1,
@@ -78,7 +78,7 @@ fn rank(tail: Tail) -> u32
 }
 
 fn bars_in(tail: Tail) -> bool
-    ensures { result ≡ m.bars_in tail }
+    ensures { result ≡ grammar_machine.bars_in tail }
 {
     match tail {
         Tail::Level(_, plain) => plain,
@@ -87,7 +87,7 @@ fn bars_in(tail: Tail) -> bool
 }
 
 fn is_in_sign(x: Sign) -> bool
-    ensures { result ≡ m.is_in_sign x }
+    ensures { result ≡ grammar_machine.is_in_sign x }
 {
     match x {
         Sign::Token { kind, .. } => is_in(kind),
@@ -97,14 +97,14 @@ fn is_in_sign(x: Sign) -> bool
 
 /// Whether the tail takes the token.
 pub(super) fn takes(tail: Tail, x: Sign) -> bool
-    ensures { result ≡ m.takes tail x }
+    ensures { result ≡ grammar_machine.takes tail x }
 {
     reach(x) == rank(tail) && !(bars_in(tail) && is_in_sign(x))
 }
 
 /// Whether this is the token that must come.
 pub(super) fn fits(terminal: Terminal, x: Sign) -> bool
-    ensures { result ≡ m.fits terminal x }
+    ensures { result ≡ grammar_machine.fits terminal x }
 {
     if let Terminal::Semicolon(head) = terminal {
         return is_end(head, x);
@@ -124,7 +124,7 @@ pub(super) fn fits(terminal: Terminal, x: Sign) -> bool
 
 /// The bracket that closes a list.
 pub(super) fn closing(listing: Listing) -> Terminal
-    ensures { result ≡ m.closing listing }
+    ensures { result ≡ grammar_machine.closing listing }
 {
     match listing {
         Listing::Arguments | Listing::Parameters => Terminal::Close,
@@ -133,7 +133,7 @@ pub(super) fn closing(listing: Listing) -> Terminal
 }
 
 pub(super) fn is_comma(x: Sign) -> bool
-    ensures { result ≡ m.is_comma x }
+    ensures { result ≡ grammar_machine.is_comma x }
 {
     matches!(
         x,
@@ -145,7 +145,7 @@ pub(super) fn is_comma(x: Sign) -> bool
 }
 
 fn is_else(x: Sign) -> bool
-    ensures { result ≡ m.is_word_sign Word.Else x }
+    ensures { result ≡ grammar_machine.is_word_sign Word.Else x }
 {
     matches!(
         x,
@@ -157,7 +157,7 @@ fn is_else(x: Sign) -> bool
 }
 
 fn is_finally(x: Sign) -> bool
-    ensures { result ≡ m.is_word_sign Word.Finally x }
+    ensures { result ≡ grammar_machine.is_word_sign Word.Finally x }
 {
     matches!(
         x,
@@ -169,7 +169,7 @@ fn is_finally(x: Sign) -> bool
 }
 
 fn is_equals(x: Sign) -> bool
-    ensures { result ≡ m.is_equals x }
+    ensures { result ≡ grammar_machine.is_equals x }
 {
     matches!(
         x,
@@ -182,7 +182,7 @@ fn is_equals(x: Sign) -> bool
 
 /// Whether no line break stands before the token.
 pub(super) fn is_on_same_line(x: Sign) -> bool
-    ensures { result ≡ m.same_line x }
+    ensures { result ≡ grammar_machine.same_line x }
 {
     match x {
         Sign::Token { after_break, .. } => !after_break,
@@ -191,7 +191,7 @@ pub(super) fn is_on_same_line(x: Sign) -> bool
 }
 
 fn begins_with_word(of_body: bool, word: Word) -> bool
-    ensures { result ≡ m.begins_word of_body word }
+    ensures { result ≡ grammar_machine.begins_word of_body word }
 {
     match word {
         Word::Function => of_body,
@@ -202,7 +202,7 @@ fn begins_with_word(of_body: bool, word: Word) -> bool
 
 /// Whether it is the first token of some item of a body or, else, of a block.
 fn begins_item(of_body: bool, x: Sign) -> bool
-    ensures { result ≡ m.begins of_body x }
+    ensures { result ≡ grammar_machine.begins of_body x }
 {
     let Sign::Token { kind, .. } = x else {
         return false;
@@ -219,7 +219,7 @@ fn begins_item(of_body: bool, x: Sign) -> bool
 
 /// Whether it is the `:` or the `(` behind the name of a property.
 pub(super) fn ends_key(x: Sign) -> bool
-    ensures { result ≡ m.ends_key x }
+    ensures { result ≡ grammar_machine.ends_key x }
 {
     matches!(
         x,
@@ -231,7 +231,7 @@ pub(super) fn ends_key(x: Sign) -> bool
 }
 
 fn is_key_sign(x: Sign) -> bool
-    ensures { result ≡ m.is_key_sign x }
+    ensures { result ≡ grammar_machine.is_key_sign x }
 {
     match x {
         Sign::Token {
@@ -245,7 +245,7 @@ fn is_key_sign(x: Sign) -> bool
 
 /// Whether behind a name of this role it is the name of an accessor.
 fn begins_accessor(role: NameRole, x: Sign) -> bool
-    ensures { result ≡ m.begins_accessor role x }
+    ensures { result ≡ grammar_machine.begins_accessor role x }
 {
     match role {
         NameRole::Plain => false,
@@ -255,7 +255,7 @@ fn begins_accessor(role: NameRole, x: Sign) -> bool
 
 /// Whether what may go on takes the token.
 pub(super) fn keeps(loose: Loose, x: Sign) -> bool
-    ensures { result ≡ m.keeps loose x }
+    ensures { result ≡ grammar_machine.keeps loose x }
 {
     match loose {
         Loose::Items(of_body) => begins_item(of_body, x),

@@ -1,7 +1,7 @@
 //! Parts that must come, and points inside a production.
 
 ghost use Rattle.std.specs.Prelude.{◌≡◌, ◌++◌, ◌∷◌, suc, Bool, false, true, cond, reverse, OnOk, IfOk};
-ghost use Rattle.script_grammar.specs.Machine as m;
+ghost use Rattle.script_grammar.specs.Machine as grammar_machine;
 ghost use Rattle.script_parser.specs.State.{Moves, State, numbers, stack, state};
 
 use super::Parser;
@@ -20,7 +20,7 @@ impl Parser {
         depth: u32,
         x: Sign,
     ) -> Result<Option<u32>, NoMemory>
-        ensures { Moves self.old self.new result (m.at_part State numbers part depth (stack self.old) (state self.old) x) }
+        ensures { Moves self.old self.new result (grammar_machine.at_part State numbers part depth (stack self.old) (state self.old) x) }
     {
         match part {
             Expected::Statement => self.statement(depth, x),
@@ -53,7 +53,7 @@ impl Parser {
 
     /// The word behind a `.`.
     fn word(&mut self, dot: u32, depth: u32, x: Sign) -> Result<Option<u32>, NoMemory>
-        ensures { Moves self.old self.new result (m.on_word State numbers dot depth (stack self.old) (state self.old) x) }
+        ensures { Moves self.old self.new result (grammar_machine.on_word State numbers dot depth (stack self.old) (state self.old) x) }
     {
         match x {
             Sign::Token { kind, number, .. } if is_word(kind) => {
@@ -65,7 +65,7 @@ impl Parser {
     }
 
     fn member(&mut self, listing: Listing, depth: u32, x: Sign) -> Result<Option<u32>, NoMemory>
-        ensures { Moves self.old self.new result (m.at_member State numbers listing depth (stack self.old) (state self.old) x) }
+        ensures { Moves self.old self.new result (grammar_machine.at_member State numbers listing depth (stack self.old) (state self.old) x) }
     {
         match listing {
             Listing::Arguments => self.assign(false, depth, x),
@@ -76,7 +76,7 @@ impl Parser {
 
     /// Behind the bracket or a comma of a list: its end or a member.
     fn listed(&mut self, listing: Listing, depth: u32, x: Sign) -> Result<Option<u32>, NoMemory>
-        ensures { Moves self.old self.new result (m.at_stage State numbers (Stage.Listed listing) depth (stack self.old) (state self.old) x) }
+        ensures { Moves self.old self.new result (grammar_machine.at_stage State numbers (Stage.Listed listing) depth (stack self.old) (state self.old) x) }
     {
         if fits(closing(listing), x) {
             return Ok(Some(depth));
@@ -96,7 +96,7 @@ impl Parser {
         depth: u32,
         x: Sign,
     ) -> Result<Option<u32>, NoMemory>
-        ensures { Moves self.old self.new result (cond (m.fits end x) (m.Next (stack self.old) (state self.old) depth) (cond (m.is_comma x) (m.Next (Symbol.Stage again depth ∷ stack self.old) (state self.old) depth) m.Fail)) }
+        ensures { Moves self.old self.new result (cond (grammar_machine.fits end x) (m.Next (stack self.old) (state self.old) depth) (cond (grammar_machine.is_comma x) (m.Next (Symbol.Stage again depth ∷ stack self.old) (state self.old) depth) m.Fail)) }
     {
         if fits(end, x) {
             return Ok(Some(depth));
@@ -120,7 +120,7 @@ impl Parser {
 
     /// Behind the bracket or a comma of an array literal: its end, a hole or an element.
     fn elements(&mut self, depth: u32, x: Sign) -> Result<Option<u32>, NoMemory>
-        ensures { Moves self.old self.new result (m.more_elements State numbers depth (stack self.old) (state self.old) x) }
+        ensures { Moves self.old self.new result (grammar_machine.more_elements State numbers depth (stack self.old) (state self.old) x) }
     {
         if fits(Terminal::SquareClose, x) {
             return Ok(Some(depth));
@@ -137,7 +137,7 @@ impl Parser {
 
     /// Behind a `return`: its end, or its value on the same line.
     fn after_return(&mut self, first: u32, depth: u32, x: Sign) -> Result<Option<u32>, NoMemory>
-        ensures { Moves self.old self.new result (m.at_stage State numbers (Stage.AfterReturn first) depth (stack self.old) (state self.old) x) }
+        ensures { Moves self.old self.new result (grammar_machine.at_stage State numbers (Stage.AfterReturn first) depth (stack self.old) (state self.old) x) }
     {
         if is_end(false, x) {
             return self.atom(depth, Atom::Return(first));
@@ -157,7 +157,7 @@ impl Parser {
         depth: u32,
         x: Sign,
     ) -> Result<Option<u32>, NoMemory>
-        ensures { Moves self.old self.new result (m.at_stage State numbers (Stage.MoreBindings constant head first) depth (stack self.old) (state self.old) x) }
+        ensures { Moves self.old self.new result (grammar_machine.at_stage State numbers (Stage.MoreBindings constant head first) depth (stack self.old) (state self.old) x) }
     {
         if is_end(head, x) {
             self.act(Act::Wrap(Wrap::Lexical { constant, first }))?;
@@ -188,7 +188,7 @@ impl Parser {
         depth: u32,
         x: Sign,
     ) -> Result<Option<u32>, NoMemory>
-        ensures { Moves self.old self.new result (m.at_stage State numbers stage depth (stack self.old) (state self.old) x) }
+        ensures { Moves self.old self.new result (grammar_machine.at_stage State numbers stage depth (stack self.old) (state self.old) x) }
     {
         match stage {
             Stage::Word(dot) => self.word(dot, depth, x),

@@ -1,7 +1,7 @@
 //! Statements and declarations (ECMA-262, clause 14): what the first token of a part puts on the stacks.
 
 ghost use Rattle.std.specs.Prelude.{◌≡◌, ◌++◌, ◌∷◌, suc, false, reverse, OnOk, IfOk};
-ghost use Rattle.script_grammar.specs.Machine as m;
+ghost use Rattle.script_grammar.specs.Machine as grammar_machine;
 ghost use Rattle.script_parser.specs.State.{Moves, State, numbers, stack, state};
 
 use super::Parser;
@@ -15,7 +15,7 @@ use script_grammar::{
 
 impl Parser {
     pub(super) fn block(&mut self, depth: u32, x: Sign) -> Result<Option<u32>, NoMemory>
-        ensures { Moves self.old self.new result (m.at_block State numbers depth (stack self.old) (state self.old) x) }
+        ensures { Moves self.old self.new result (grammar_machine.at_block State numbers depth (stack self.old) (state self.old) x) }
     {
         let Sign::Token {
             kind: Kind::Bracket(Bracket::BraceOpen),
@@ -35,7 +35,7 @@ impl Parser {
 
     /// `if` with its statement, and maybe `else` behind it.
     fn if_statement(&mut self, depth: u32, number: u32) -> Result<Option<u32>, NoMemory>
-        ensures { Moves self.old self.new result (m.at_statement State numbers depth (stack self.old) (state self.old) (Sign.Token (Kind.Word Word.If) number false)) }
+        ensures { Moves self.old self.new result (grammar_machine.at_statement State numbers depth (stack self.old) (state self.old) (Sign.Token (Kind.Word Word.If) number false)) }
     {
         let inner = deeper(depth)?;
         self.expect(&[
@@ -49,7 +49,7 @@ impl Parser {
     }
 
     fn while_statement(&mut self, depth: u32, number: u32) -> Result<Option<u32>, NoMemory>
-        ensures { Moves self.old self.new result (m.at_statement State numbers depth (stack self.old) (state self.old) (Sign.Token (Kind.Word Word.While) number false)) }
+        ensures { Moves self.old self.new result (grammar_machine.at_statement State numbers depth (stack self.old) (state self.old) (Sign.Token (Kind.Word Word.While) number false)) }
     {
         let inner = deeper(depth)?;
         self.expect(&[
@@ -63,7 +63,7 @@ impl Parser {
     }
 
     fn for_statement(&mut self, depth: u32, number: u32) -> Result<Option<u32>, NoMemory>
-        ensures { Moves self.old self.new result (m.at_statement State numbers depth (stack self.old) (state self.old) (Sign.Token (Kind.Word Word.For) number false)) }
+        ensures { Moves self.old self.new result (grammar_machine.at_statement State numbers depth (stack self.old) (state self.old) (Sign.Token (Kind.Word Word.For) number false)) }
     {
         let inner = deeper(depth)?;
         self.expect(&[
@@ -78,7 +78,7 @@ impl Parser {
     }
 
     fn try_statement(&mut self, depth: u32, number: u32) -> Result<Option<u32>, NoMemory>
-        ensures { Moves self.old self.new result (m.at_statement State numbers depth (stack self.old) (state self.old) (Sign.Token (Kind.Word Word.Try) number false)) }
+        ensures { Moves self.old self.new result (grammar_machine.at_statement State numbers depth (stack self.old) (state self.old) (Sign.Token (Kind.Word Word.Try) number false)) }
     {
         let inner = deeper(depth)?;
         self.expect(&[
@@ -105,7 +105,7 @@ impl Parser {
         depth: u32,
         x: Sign,
     ) -> Result<Option<u32>, NoMemory>
-        ensures { Moves self.old self.new result (m.at_expr State numbers false depth (Symbol.Take (Terminal.Semicolon false) depth ∷ Symbol.Do (Act.Wrap label) ∷ stack self.old) (state self.old) x) }
+        ensures { Moves self.old self.new result (grammar_machine.at_expr State numbers false depth (Symbol.Take (Terminal.Semicolon false) depth ∷ Symbol.Do (Act.Wrap label) ∷ stack self.old) (state self.old) x) }
     {
         self.expect(&[
             Symbol::Do(Act::Wrap(label)),
@@ -115,7 +115,7 @@ impl Parser {
     }
 
     pub(super) fn statement(&mut self, depth: u32, x: Sign) -> Result<Option<u32>, NoMemory>
-        ensures { Moves self.old self.new result (m.at_statement State numbers depth (stack self.old) (state self.old) x) }
+        ensures { Moves self.old self.new result (grammar_machine.at_statement State numbers depth (stack self.old) (state self.old) x) }
     {
         let Sign::Token { kind, number, .. } = x else {
             return Ok(None);
@@ -144,7 +144,7 @@ impl Parser {
         depth: u32,
         x: Sign,
     ) -> Result<Option<u32>, NoMemory>
-        ensures { Moves self.old self.new result (m.at_bind State numbers constant head depth (stack self.old) (state self.old) x) }
+        ensures { Moves self.old self.new result (grammar_machine.at_bind State numbers constant head depth (stack self.old) (state self.old) x) }
     {
         let Sign::Token {
             kind: Kind::Name(_),
@@ -173,7 +173,7 @@ impl Parser {
         first: u32,
         depth: u32,
     ) -> Result<Option<u32>, NoMemory>
-        ensures { Moves self.old self.new result (m.declares State numbers constant head first depth (stack self.old) (state self.old)) }
+        ensures { Moves self.old self.new result (grammar_machine.declares State numbers constant head first depth (stack self.old) (state self.old)) }
     {
         self.begin_list(&[
             Symbol::Stage(
@@ -197,7 +197,7 @@ impl Parser {
         depth: u32,
         x: Sign,
     ) -> Result<Option<u32>, NoMemory>
-        ensures { Moves self.old self.new result (m.at_item State numbers of_body depth (stack self.old) (state self.old) x) }
+        ensures { Moves self.old self.new result (grammar_machine.at_item State numbers of_body depth (stack self.old) (state self.old) x) }
     {
         match x {
             Sign::Token {
@@ -227,7 +227,7 @@ impl Parser {
         depth: u32,
         x: Sign,
     ) -> Result<Option<u32>, NoMemory>
-        ensures { Moves self.old self.new result (m.at_maybe State numbers plain end depth (stack self.old) (state self.old) x) }
+        ensures { Moves self.old self.new result (grammar_machine.at_maybe State numbers plain end depth (stack self.old) (state self.old) x) }
     {
         if fits(end, x) {
             return self.atom(depth, Atom::Nothing);
@@ -238,7 +238,7 @@ impl Parser {
 
     /// The first part of the head of a `for`.
     pub(super) fn first(&mut self, depth: u32, x: Sign) -> Result<Option<u32>, NoMemory>
-        ensures { Moves self.old self.new result (m.at_first State numbers depth (stack self.old) (state self.old) x) }
+        ensures { Moves self.old self.new result (grammar_machine.at_first State numbers depth (stack self.old) (state self.old) x) }
     {
         match x {
             Sign::Token {

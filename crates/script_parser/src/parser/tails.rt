@@ -1,7 +1,7 @@
 //! Tokens that go on with what stands before them.
 
 ghost use Rattle.std.specs.Prelude.{◌≡◌, ◌++◌, ◌∷◌, suc, Bool, false, true, reverse, OnOk, IfOk};
-ghost use Rattle.script_grammar.specs.Machine as m;
+ghost use Rattle.script_grammar.specs.Machine as grammar_machine;
 ghost use Rattle.script_parser.specs.State.{Moves, State, numbers, stack, state};
 
 use super::Parser;
@@ -16,7 +16,7 @@ use script_grammar::{
 impl Parser {
     /// `.`, `[` or `(` behind an expression. The symbol `again` stands for what may follow next.
     fn after_left(&mut self, again: Symbol, depth: u32, x: Sign) -> Result<Option<u32>, NoMemory>
-        ensures { Moves self.old self.new result (m.after_left State numbers again depth (stack self.old) (state self.old) x) }
+        ensures { Moves self.old self.new result (grammar_machine.after_left State numbers again depth (stack self.old) (state self.old) x) }
     {
         let Sign::Token { kind, number, .. } = x else {
             return Ok(None);
@@ -44,7 +44,7 @@ impl Parser {
 
     /// `.`, `[` or `(` behind the callee of a `new`, which has the first arguments behind it.
     fn after_callee(&mut self, first: u32, depth: u32, x: Sign) -> Result<Option<u32>, NoMemory>
-        ensures { Moves self.old self.new result (m.after_callee State numbers first depth (stack self.old) (state self.old) x) }
+        ensures { Moves self.old self.new result (grammar_machine.after_callee State numbers first depth (stack self.old) (state self.old) x) }
     {
         let Sign::Token { kind, number, .. } = x else {
             return Ok(None);
@@ -71,7 +71,7 @@ impl Parser {
 
     /// `++` or `--` behind a target, on the same line.
     fn after_update(&mut self, depth: u32, x: Sign) -> Result<Option<u32>, NoMemory>
-        ensures { Moves self.old self.new result (m.after_update State numbers depth (stack self.old) (state self.old) x) }
+        ensures { Moves self.old self.new result (grammar_machine.after_update State numbers depth (stack self.old) (state self.old) x) }
     {
         match x {
             Sign::Token {
@@ -98,7 +98,7 @@ impl Parser {
         depth: u32,
         x: Sign,
     ) -> Result<Option<u32>, NoMemory>
-        ensures { Moves self.old self.new result (m.after_level State numbers level plain depth (stack self.old) (state self.old) x) }
+        ensures { Moves self.old self.new result (grammar_machine.after_level State numbers level plain depth (stack self.old) (state self.old) x) }
     {
         let Sign::Token { kind, .. } = x else {
             return Ok(None);
@@ -118,7 +118,7 @@ impl Parser {
 
     /// `??`, beside which neither `&&` nor `||` stands.
     fn after_short(&mut self, plain: bool, depth: u32, x: Sign) -> Result<Option<u32>, NoMemory>
-        ensures { Moves self.old self.new result (m.after_short State numbers plain depth (stack self.old) (state self.old) x) }
+        ensures { Moves self.old self.new result (grammar_machine.after_short State numbers plain depth (stack self.old) (state self.old) x) }
     {
         match x {
             Sign::Token {
@@ -142,7 +142,7 @@ impl Parser {
         depth: u32,
         x: Sign,
     ) -> Result<Option<u32>, NoMemory>
-        ensures { Moves self.old self.new result (m.after_cond State numbers plain depth (stack self.old) (state self.old) x) }
+        ensures { Moves self.old self.new result (grammar_machine.after_cond State numbers plain depth (stack self.old) (state self.old) x) }
     {
         let Sign::Token {
             kind: Kind::Mark(Mark::Question),
@@ -161,7 +161,7 @@ impl Parser {
     }
 
     fn after_assign(&mut self, plain: bool, depth: u32, x: Sign) -> Result<Option<u32>, NoMemory>
-        ensures { Moves self.old self.new result (m.after_assign State numbers plain depth (stack self.old) (state self.old) x) }
+        ensures { Moves self.old self.new result (grammar_machine.after_assign State numbers plain depth (stack self.old) (state self.old) x) }
     {
         match x {
             Sign::Token {
@@ -184,7 +184,7 @@ impl Parser {
         depth: u32,
         x: Sign,
     ) -> Result<Option<u32>, NoMemory>
-        ensures { Moves self.old self.new result (m.after_expr State numbers plain depth (stack self.old) (state self.old) x) }
+        ensures { Moves self.old self.new result (grammar_machine.after_expr State numbers plain depth (stack self.old) (state self.old) x) }
     {
         let Sign::Token {
             kind: Kind::Mark(Mark::Comma),
@@ -208,7 +208,7 @@ impl Parser {
         depth: u32,
         x: Sign,
     ) -> Result<Option<u32>, NoMemory>
-        ensures { Moves self.old self.new result (m.continue State numbers tail depth (stack self.old) (state self.old) x) }
+        ensures { Moves self.old self.new result (grammar_machine.continue State numbers tail depth (stack self.old) (state self.old) x) }
     {
         match tail {
             Tail::Left => self.after_left(Symbol::Tail(Tail::Left, depth), depth, x),
@@ -228,7 +228,7 @@ impl Parser {
         depth: u32,
         x: Sign,
     ) -> Result<Option<u32>, NoMemory>
-        ensures { Moves self.old self.new result (m.go_on State numbers loose depth (stack self.old) (state self.old) x) }
+        ensures { Moves self.old self.new result (grammar_machine.go_on State numbers loose depth (stack self.old) (state self.old) x) }
     {
         match loose {
             Loose::Items(of_body) => {

@@ -1,15 +1,15 @@
 //! Trees.
 
 ghost use Rattle.std.specs.Prelude.{◌≡◌, ◌++◌, ◌∷◌, [], List, OnOk, IfNone, option_to_list, reverse, slice_get};
-ghost use Rattle.script_grammar.specs.declared.act.Act.TheVariants as u;
-ghost use Rattle.script_grammar.specs.declared.node.Node.{Node};
+ghost use Rattle.script_grammar.specs.declared.act.Act.TheVariants as act_kinds;
+ghost use Rattle.script_grammar.specs.declared.node.ParseNode.{ParseNode};
 ghost use Rattle.script_grammar.specs.declared.labels.Atom.TheVariants as atom;
 ghost use Rattle.script_parser.specs.State.{stack, state, ids, built, act_on, head_of, is_target_node, is_plain_node, newest};
 
 use super::Parser;
 use es_tree::ShortOperator;
 use property_keys::NoMemory;
-use script_grammar::{Act, Atom, Node, Pair, Quad, Symbol, Triple, Wrap};
+use script_grammar::{Act, Atom, Pair, ParseNode, Quad, Symbol, Triple, Wrap};
 
 impl Parser {
     /// Puts symbols on the stack, the last on top.
@@ -24,7 +24,7 @@ impl Parser {
         }
     }
 
-    fn push_node(&mut self, node: Node) -> Result<(), NoMemory>
+    fn push_node(&mut self, node: ParseNode) -> Result<(), NoMemory>
         ensures symbols { self.new.symbols ≡ self.old.symbols }
         ensures pending { self.new.pending ≡ self.old.pending }
         ensures values { self.new.values ≡ self.old.values }
@@ -49,7 +49,7 @@ impl Parser {
     }
 
     /// Makes a node and puts it on the stack.
-    fn build(&mut self, node: Node) -> Result<(), NoMemory>
+    fn build(&mut self, node: ParseNode) -> Result<(), NoMemory>
         ensures symbols { self.new.symbols ≡ self.old.symbols }
         ensures pending { self.new.pending ≡ self.old.pending }
         ensures built { OnOk result (state self.new ≡ built node self.old.nodes.items (ids self.old)) }
@@ -75,18 +75,18 @@ impl Parser {
     fn wrap(&mut self, label: Wrap) -> Result<(), NoMemory>
         ensures symbols { self.new.symbols ≡ self.old.symbols }
         ensures pending { self.new.pending ≡ self.old.pending }
-        ensures made { OnOk result (state self.new ≡ act_on (u.Wrap label) self.old.nodes.items (ids self.old)) }
+        ensures made { OnOk result (state self.new ≡ act_on (act_kinds.Wrap label) self.old.nodes.items (ids self.old)) }
     {
         let Some(x) = self.pop_value() else {
             return Ok(());
         };
-        self.build(Node::Wrap(label, x))
+        self.build(ParseNode::Wrap(label, x))
     }
 
     fn pair(&mut self, label: Pair) -> Result<(), NoMemory>
         ensures symbols { self.new.symbols ≡ self.old.symbols }
         ensures pending { self.new.pending ≡ self.old.pending }
-        ensures made { OnOk result (state self.new ≡ act_on (u.Pair label) self.old.nodes.items (ids self.old)) }
+        ensures made { OnOk result (state self.new ≡ act_on (act_kinds.Pair label) self.old.nodes.items (ids self.old)) }
     {
         let Some(y) = self.pop_value() else {
             return Ok(());
@@ -94,13 +94,13 @@ impl Parser {
         let Some(x) = self.pop_value() else {
             return Ok(());
         };
-        self.build(Node::Pair(label, x, y))
+        self.build(ParseNode::Pair(label, x, y))
     }
 
     fn triple(&mut self, label: Triple) -> Result<(), NoMemory>
         ensures symbols { self.new.symbols ≡ self.old.symbols }
         ensures pending { self.new.pending ≡ self.old.pending }
-        ensures made { OnOk result (state self.new ≡ act_on (u.Triple label) self.old.nodes.items (ids self.old)) }
+        ensures made { OnOk result (state self.new ≡ act_on (act_kinds.Triple label) self.old.nodes.items (ids self.old)) }
     {
         let Some(z) = self.pop_value() else {
             return Ok(());
@@ -111,13 +111,13 @@ impl Parser {
         let Some(x) = self.pop_value() else {
             return Ok(());
         };
-        self.build(Node::Triple(label, x, y, z))
+        self.build(ParseNode::Triple(label, x, y, z))
     }
 
     fn quad(&mut self, label: Quad) -> Result<(), NoMemory>
         ensures symbols { self.new.symbols ≡ self.old.symbols }
         ensures pending { self.new.pending ≡ self.old.pending }
-        ensures made { OnOk result (state self.new ≡ act_on (u.Quad label) self.old.nodes.items (ids self.old)) }
+        ensures made { OnOk result (state self.new ≡ act_on (act_kinds.Quad label) self.old.nodes.items (ids self.old)) }
     {
         let Some(w) = self.pop_value() else {
             return Ok(());
@@ -131,7 +131,7 @@ impl Parser {
         let Some(x) = self.pop_value() else {
             return Ok(());
         };
-        self.build(Node::Quad(label, x, y, z, w))
+        self.build(ParseNode::Quad(label, x, y, z, w))
     }
 
     /// Makes the newest values one.
@@ -141,7 +141,7 @@ impl Parser {
         ensures made { OnOk result (state self.new ≡ act_on act self.old.nodes.items (ids self.old)) }
     {
         match act {
-            Act::Atom(label) => self.build(Node::Atom(label)),
+            Act::Atom(label) => self.build(ParseNode::Atom(label)),
             Act::Wrap(label) => self.wrap(label),
             Act::Pair(label) => self.pair(label),
             Act::Triple(label) => self.triple(label),
@@ -153,7 +153,7 @@ impl Parser {
     pub(super) fn nothing(&mut self) -> Result<(), NoMemory>
         ensures symbols { self.new.symbols ≡ self.old.symbols }
         ensures stack { stack self.new ≡ stack self.old }
-        ensures made { OnOk result (state self.new ≡ act_on (u.Atom atom.Nothing) self.old.nodes.items (ids self.old)) }
+        ensures made { OnOk result (state self.new ≡ act_on (act_kinds.Atom atom.Nothing) self.old.nodes.items (ids self.old)) }
     {
         self.act(Act::Atom(Atom::Nothing))
     }
@@ -161,7 +161,7 @@ impl Parser {
     /// An empty list on the stack of values, and symbols on the other, the last on top.
     pub(super) fn begin_list(&mut self, symbols: &[Symbol]) -> Result<(), NoMemory>
         ensures apart { self.new.symbols ≡ self.old.symbols }
-        ensures made { OnOk result (state self.new ≡ act_on (u.Atom atom.Nothing) self.old.nodes.items (ids self.old)) }
+        ensures made { OnOk result (state self.new ≡ act_on (act_kinds.Atom atom.Nothing) self.old.nodes.items (ids self.old)) }
         ensures stack { OnOk result (stack self.new ≡ reverse symbols.now ++ stack self.old) }
     {
         self.nothing()?;
@@ -174,14 +174,14 @@ impl Parser {
         self.values.last().copied()
     }
 
-    fn node(&self, id: u32) -> Option<Node>
+    fn node(&self, id: u32) -> Option<ParseNode>
         ensures { result ≡ slice_get self.now.nodes.items id }
     {
         self.nodes.get(id as usize).copied()
     }
 
     /// The node of the newest value.
-    fn newest_node(&self) -> Option<Node>
+    fn newest_node(&self) -> Option<ParseNode>
         ensures { result ≡ newest self.now.nodes.items (ids self.now) }
     {
         match self.newest_value() {
@@ -197,9 +197,9 @@ impl Parser {
         matches!(
             self.newest_node(),
             Some(
-                Node::Atom(Atom::Name(_))
-                    | Node::Wrap(Wrap::Member { .. }, _)
-                    | Node::Pair(Pair::Index(_), _, _)
+                ParseNode::Atom(Atom::Name(_))
+                    | ParseNode::Wrap(Wrap::Member { .. }, _)
+                    | ParseNode::Pair(Pair::Index(_), _, _)
             )
         )
     }
@@ -209,8 +209,8 @@ impl Parser {
         ensures { result ≡ is_plain_node (newest self.now.nodes.items (ids self.now)) }
     {
         match self.newest_node() {
-            Some(Node::Pair(Pair::Short(ShortOperator::And | ShortOperator::Or), _, _)) | None =>
-                false,
+            Some(ParseNode::Pair(Pair::Short(ShortOperator::And | ShortOperator::Or), _, _))
+            | None => false,
             Some(_) => true,
         }
     }

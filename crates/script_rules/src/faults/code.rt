@@ -1,3 +1,5 @@
+//! The code of a function: what it has of its own.
+
 /// The parameters of a function.
 #[derive(Clone, Copy)]
 pub enum Parameters {

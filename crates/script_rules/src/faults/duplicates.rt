@@ -14,7 +14,7 @@ use crate::{Declared, Manner, members, own_units_at, part};
 use es_source::{FaultCode, SourceFault};
 use indexmap::IndexMap;
 use property_keys::{NoMemory, Units};
-use script_grammar::{Atom, Node, Pair, Script};
+use script_grammar::{Atom, Pair, ParseNode, Script};
 use std::alloc::Global;
 
 /// Whether a name may not be declared in the later manner where it was declared in the earlier.
@@ -86,11 +86,11 @@ fn prototype_key(script: &Script, property: u32) -> Option<u32>
     requires { IsPart script.now.nodes property }
     ensures { option_to_list result ≡ prototype_key script.now.leaves (tree_at script.now.nodes property) }
 {
-    let Node::Pair(Pair::Property, name, _) = part(script, property) else {
+    let ParseNode::Pair(Pair::Property, name, _) = part(script, property) else {
         return None;
     };
     match part(script, name) {
-        Node::Atom(Atom::Key(token)) => {
+        ParseNode::Atom(Atom::Key(token)) => {
             if has_text(script, token, b"__proto__") {
                 Some(token)
             } else {

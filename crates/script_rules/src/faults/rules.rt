@@ -8,12 +8,11 @@ ghost use Rattle.script_rules.specs.Scopes.{is_captured};
 ghost use Rattle.script_rules.specs.Walks.{around_task, Parenthesised};
 
 use super::walk::Task;
-use crate::token_units::is_text;
 use crate::{Resolved, Scopes, leaf_at, part, units_at};
 use es_source::{FaultCode, SourceFault};
 use es_tree::UnaryOperator;
 use property_keys::Units;
-use script_grammar::{Atom, Node, Script, Wrap};
+use script_grammar::{Atom, ParseNode, Script, Wrap};
 use std::alloc::Global;
 
 /// A fault at a token.
@@ -23,8 +22,7 @@ fn fault_at(script: &Script, code: FaultCode, token: u32) -> Option<SourceFault>
     let leaf = leaf_at(script, token)?;
     Some(SourceFault {
         code,
-        line: leaf.line,
-        column: leaf.column,
+        place: leaf.place,
     })
 }
 
@@ -49,7 +47,7 @@ pub fn has_text(script: &Script, token: u32, text: &[u8]) -> bool
     ensures { result ≡ bytes_eq (units_at script.now.leaves token) text.now }
 {
     match units_at(script, token) {
-        Some(units) => is_text(units, text),
+        Some(units) => units.is_ascii(text),
         None => text.is_empty(),
     }
 }
@@ -75,7 +73,7 @@ pub fn target_fault(script: &Script, target: u32) -> Option<SourceFault>
     ensures { result ≡ least (target_faults script.now.leaves (tree_at script.now.nodes target)) }
 {
     match part(script, target) {
-        Node::Atom(Atom::Name(name)) => {
+        ParseNode::Atom(Atom::Name(name)) => {
             fault_where(
                 script,
                 is_fixed_name(script, name),
@@ -134,7 +132,7 @@ fn parenthesised(script: &Script, n: u32) -> Option<u32>
     ensures { Parenthesised script.now.nodes n result }
 {
     match part(script, n) {
-        Node::Wrap(Wrap::Parenthesis(_), inner) => Some(inner),
+        ParseNode::Wrap(Wrap::Parenthesis(_), inner) => Some(inner),
         _ => None,
     }
 }
@@ -148,7 +146,7 @@ fn is_name(script: &Script, n: u32) -> bool
     'inwards: while let Some(next) = parenthesised(script, inner) {
         inner = next;
     }
-    matches!(part(script, inner), Node::Atom(Atom::Name(_)))
+    matches!(part(script, inner), ParseNode::Atom(Atom::Name(_)))
 }
 
 /// Whether an operator is `delete`.

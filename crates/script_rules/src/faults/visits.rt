@@ -2,7 +2,7 @@
 
 ghost use Rattle.std.specs.Prelude.{◌≡◌, ◌<◌, ◌+◌, ◌++◌, List, length, IfOk, OnOk};
 ghost use Rattle.es_source.specs.declared.faults.SourceFault.{SourceFault};
-ghost use Rattle.script_grammar.specs.Tree.{Tree as tree};
+ghost use Rattle.script_grammar.specs.Tree.{ParseTree as tree};
 ghost use Rattle.script_grammar.specs.declared.labels.Wrap.TheVariants as wrap;
 ghost use Rattle.script_grammar.specs.declared.labels.Quad.TheVariants as quad;
 ghost use Rattle.script_rules.specs.declared.manner.Manner.TheVariants as manner;
@@ -25,7 +25,7 @@ use crate::{
 };
 use es_source::SourceFault;
 use property_keys::NoMemory;
-use script_grammar::{Atom, Node, Pair, Quad, Script, Triple, Wrap};
+use script_grammar::{Atom, Pair, ParseNode, Quad, Script, Triple, Wrap};
 use std::alloc::Global;
 
 /// The fault of a label without parts.
@@ -470,17 +470,17 @@ pub fn visit(alloc: Global, script: &Script, walk: &mut Walk, task: Task) -> Res
         (faults script.now.leaves (around_task walk.old.scopes task) (tree_at script.now.nodes task.node)) (size_of_parts (tree_at script.now.nodes task.node))) }
 {
     match part(script, task.node) {
-        Node::Atom(label) => {
+        ParseNode::Atom(label) => {
             let fault = own_of_atom(alloc, script, &walk.scopes, task, label);
             note(script, walk, fault);
             Ok(())
         }
-        Node::Wrap(label, inner) => visit_wrap(alloc, script, walk, task, label, inner),
-        Node::Pair(label, x, y) => visit_pair(alloc, script, walk, task, label, (x, y)),
-        Node::Triple(label, x, y, z) => {
+        ParseNode::Wrap(label, inner) => visit_wrap(alloc, script, walk, task, label, inner),
+        ParseNode::Pair(label, x, y) => visit_pair(alloc, script, walk, task, label, (x, y)),
+        ParseNode::Triple(label, x, y, z) => {
             visit_triple(alloc, script, walk, task, label, (x, y, z))
         }
-        Node::Quad(label, x, y, z, w) => {
+        ParseNode::Quad(label, x, y, z, w) => {
             visit_quad(alloc, script, walk, task, label, (x, y, z, w))
         }
     }

@@ -6,7 +6,7 @@ use Rattle.prototype_validity.specs.declared.registry.Registry.{Registry}
 use Rattle.prototype_validity.specs.declared.validity.Validity.TheInside.{Inside}
 use Rattle.prototype_validity.specs.Cells.{after_change}
 use Rattle.prototype_validity.specs.Registered.{count_of, cell_at}
-use Rattle.prototype_validity.specs.Sound.{IsSound}
+use Rattle.prototype_validity.specs.Sound.{IsSoundRegistry}
 use Rattle.prototype_validity.proofs.Standing.{Dropped, dropped_none, dropped_more, dropped_nothing, dropped_all, dropped_same, none_from_not, sound_changed}
 use Rattle.prototype_validity.proofs.validity.Validity.changed.Goals.{in-Some, in_default}
 use Rattle.prototype_validity.proofs.validity.Validity.changed.Goals as goal
@@ -42,7 +42,7 @@ all c =
 
 pub invariant_of-self : goal.invariant_of-self
 invariant_of-self c =
-    let P : (List ℕ → Option ℕ) → Registry → List Cell → Type 0 = λ f r cs. IsSound f r cs in
+    let P : (List ℕ → Option ℕ) → Registry → List Cell → Type 0 = λ f r cs. IsSoundRegistry f r cs in
     let old : List ℕ → Option ℕ = λ chain. get bytes_eq c.self.inside.newest chain in
     let now : List ℕ → Option ℕ = λ chain. get bytes_eq c.loop-place.self-inside.newest chain in
     let same : now ≡ old = λ t chain. get bytes_eq (c.loop-place.invariant.newest t) chain in

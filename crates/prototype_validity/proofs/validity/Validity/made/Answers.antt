@@ -6,7 +6,7 @@ use Rattle.property_keys.specs.declared.identifiers.ObjectId.{ObjectId}
 use Rattle.prototype_validity.specs.declared.cell.Cell.{Cell}
 use Rattle.prototype_validity.specs.Cells.{HasNoCell, new_cell, includes}
 use Rattle.prototype_validity.specs.Registered.{IsListed}
-use Rattle.prototype_validity.specs.Sound.{IsSound}
+use Rattle.prototype_validity.specs.Sound.{IsSoundRegistry}
 use Rattle.prototype_validity.proofs.Standing.{sound_grown, sound_newest, sound_entered}
 use Rattle.prototype_validity.proofs.validity.Validity.made.Goals as goal
 
@@ -22,12 +22,12 @@ invariant_of-self-2 c =
     let now : List ℕ → Option ℕ = λ q. get bytes_eq c.insert.new.self q in
     let update : (q : List ℕ) → now q ≡ cond (bytes_eq chain q) (Some (length cells)) (old q) =
     λ q. c.in-Ok.ensures.updates.0 q ∙ (λ t. cond (bytes_eq (keyed t) q) (Some (n t)) (old q)) in
-    let grown : IsSound old c.add_to_each.new.registry cells =
+    let grown : IsSoundRegistry old c.add_to_each.new.registry cells =
     sound_grown _ _ _ c.self.invariant old c.add_to_each.new.registry (λ q. refl) c.in_ok-add_to_each.ensures.kept in
-    let newest : IsSound now c.add_to_each.new.registry cells = sound_newest _ _ _ grown chain (length cells) now none update in
+    let newest : IsSoundRegistry now c.add_to_each.new.registry cells = sound_newest _ _ _ grown chain (length cells) now none update in
     let at : now chain ≡ Some (length cells) = update chain ∙ ap (λ b. cond b (Some (length cells)) (old chain)) ((bytes_eq-Decides chain chain).1 refl) in
     let lists : (o : ObjectId) → includes o.0 chain ≡ true → IsListed c.add_to_each.new.registry o (length cells) =
     λ o inc. subst (λ k. IsListed c.add_to_each.new.registry o k) n (c.in_ok-add_to_each.ensures.listed o inc) in
-    let P : List Cell → Type 0 = λ cs. IsSound now c.add_to_each.new.registry cs in
+    let P : List Cell → Type 0 = λ cs. IsSoundRegistry now c.add_to_each.new.registry cs in
     subst P (sym (c.in-Ok-push.ensures.items ∙ ap (λ ch. cells ++ new_cell ch ∷ []) owned))
     (sound_entered _ _ _ newest chain at lists (omega arith))

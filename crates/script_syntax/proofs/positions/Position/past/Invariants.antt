@@ -5,6 +5,6 @@ use Rattle.script_syntax.proofs.positions.Position.past.Given as goal
 abbrev pub invariant-loop-character : goal.invariant-loop-character
 invariant-loop-character l = record {
   place : (before : List ℕ) → l.fn.self ≡ position_after before → l.position ≡ position_after (before ++ take l.character-index l.characters);
-  line : l.position.line ≤ l.fn.self.line + l.character-index;
-  column : l.position.column ≤ l.fn.self.column + 4 * l.character-index;
+  line : l.position.place.line ≤ l.fn.self.place.line + l.character-index;
+  column : l.position.place.column ≤ l.fn.self.place.column + 4 * l.character-index;
 }

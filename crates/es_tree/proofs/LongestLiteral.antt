@@ -1,6 +1,6 @@
 -- No object literal has more property definitions than the longest.
 use Rattle.std.proofs.Common.{◌≡◌, ◌≤◌, ℕ, zero, suc, List, [], ◌∷◌, Some, slice_get, max, length, drop, arith, get_or}
-use Rattle.es_model.specs.Definitions.{definitions_at, most_definitions}
+use Rattle.es_tree.specs.Definitions.{definitions_at, most_definitions}
 use Rattle.es_tree.specs.declared.node.Node.{Node}
 
 pub most-at : (ns : List Node) (i : ℕ) (n : Node) → slice_get ns i ≡ Some n → definitions_at n ≤ most_definitions ns

@@ -1,37 +1,39 @@
+//! A list of what parts became.
+
 ghost use Rattle.std.specs.Prelude.{◌≡◌, ◌++◌, ◌∷◌, [], length, OnOk};
 
-use crate::Item;
+use crate::MadePart;
 use property_keys::NoMemory;
 use std::alloc::Global;
 use std::marker::Model;
 
 /// What the members of a list become, in order.
 #[derive(Drop)]
-pub struct ItemList {
-    all: Vec<Item>,
+pub struct MadePartList {
+    all: Vec<MadePart>,
 }
 
-impl Model for ItemList {
+impl Model for MadePartList {
     ghost use Rattle.std.specs.Prelude.{List};
-    ghost use Rattle.script_checker.specs.declared.values.Item.{Item};
+    ghost use Rattle.script_checker.specs.declared.made_parts.MadePart.{MadePart};
 
-    ghost Value = { List Item };
+    ghost Value = { List MadePart };
 
     ghost view = { λ l. l.all.items };
 }
 
-impl ItemList {
+impl MadePartList {
     /// No members. It takes no memory.
-    pub fn new(alloc: Global) -> ItemList
+    pub fn new(alloc: Global) -> MadePartList
         ensures { result ≡ [] }
     {
-        ItemList {
+        MadePartList {
             all: Vec::new(alloc),
         }
     }
 
     /// Adds a member at the end.
-    pub fn push(&mut self, item: Item) -> Result<(), NoMemory>
+    pub fn push(&mut self, item: MadePart) -> Result<(), NoMemory>
         ensures { OnOk result (self.new ≡ self.old ++ item ∷ []) }
     {
         self.all.push(item).map_err(|_| NoMemory)
@@ -45,14 +47,14 @@ impl ItemList {
     }
 
     /// The members by reference.
-    pub fn as_slice(&self) -> &[Item]
+    pub fn as_slice(&self) -> &[MadePart]
         ensures { result.now ≡ self.now }
     {
         self.all.as_slice()
     }
 
     /// The members.
-    pub fn into_vec(self) -> Vec<Item>
+    pub fn into_vec(self) -> Vec<MadePart>
         ensures { result.items ≡ self }
     {
         self.all

@@ -1,9 +1,11 @@
-use crate::ItemList;
+//! What parts of a script become.
+
+use crate::MadePartList;
 use es_tree::{Block, Catch, Declared, FunctionNo, Key, Named, NodeId, Property};
 
 /// What one part of a script becomes in its tree.
 #[derive(Drop)]
-pub enum Item {
+pub enum MadePart {
     /// A part that is left out.
     Nothing,
     /// A node of its own.
@@ -27,7 +29,7 @@ pub enum Item {
 
 /// A part, or a list of parts.
 #[derive(Drop)]
-pub enum Value {
-    One(Item),
-    Many(ItemList),
+pub enum MadeParts {
+    One(MadePart),
+    Many(MadePartList),
 }
