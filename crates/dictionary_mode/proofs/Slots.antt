@@ -13,7 +13,7 @@ use Rattle.property_keys.specs.contracts.keys.PropKeyPartialEq.TheImpl.{eq-value
 use Rattle.descriptors.specs.declared.property.Complete.{Complete}
 use Rattle.dictionary_mode.specs.Counts.{Lacks}
 use Rattle.dictionary_mode.specs.Entries.{no_entry, entry_at, key_at, IsPlaceOf, LacksKey, HasOneEach, with_property}
-use Rattle.dictionary_mode.specs.Places.{in_use, IsSound}
+use Rattle.dictionary_mode.specs.Places.{in_use, IsSoundDictionary}
 
 abbrev pub key_eq : PropKey → PropKey → Bool
 key_eq = eq-value.it
@@ -44,7 +44,7 @@ key_in_use slots order i lt = ap (λ (e : PropKey × Complete). e.0) (entry_in_u
 pub known_in_use : (slots : Slots) (order : List ℕ) (i : ℕ) → i < length (in_use slots order) → i < length order
 known_in_use slots order i lt = omega (arith, length-in_use slots order)
 
-pub sound_none : (index : PropKey → Option ℕ) (most : ℕ) → ((q : PropKey) → index q ≡ None) → IsSound index [] [] most
+pub sound_none : (index : PropKey → Option ℕ) (most : ℕ) → ((q : PropKey) → index q ≡ None) → IsSoundDictionary index [] [] most
 sound_none index most none = record {
   rising = λ i j l lt. absurd (omega arith);
   within = λ i lt. absurd (omega arith);
@@ -60,7 +60,7 @@ on_some (Some x) P h p = p
 on_some None P h p = absurd (true≢false (sym h))
 
 -- an index that gives the same
-pub sound_same : (index now : PropKey → Option ℕ) (slots : Slots) (order : List ℕ) (most : ℕ) → ((q : PropKey) → now q ≡ index q) → IsSound index slots order most → IsSound now slots order most
+pub sound_same : (index now : PropKey → Option ℕ) (slots : Slots) (order : List ℕ) (most : ℕ) → ((q : PropKey) → now q ≡ index q) → IsSoundDictionary index slots order most → IsSoundDictionary now slots order most
 sound_same index now slots order most same sound = record {
   rising = sound.rising;
   within = sound.within;
@@ -71,7 +71,7 @@ sound_same index now slots order most same sound = record {
   fits = sound.fits;
 }
 
-module _ (index : PropKey → Option ℕ) (slots : Slots) (order : List ℕ) (most : ℕ) (sound : IsSound index slots order most) where
+module _ (index : PropKey → Option ℕ) (slots : Slots) (order : List ℕ) (most : ℕ) (sound : IsSoundDictionary index slots order most) where
   pub one_each : HasOneEach (in_use slots order)
   one_each i j a b same =
       let li : i < length order = known_in_use slots order i a in
@@ -105,7 +105,7 @@ module _ (index : PropKey → Option ℕ) (slots : Slots) (order : List ℕ) (mo
       lacks place l y
 
   -- a slot more, out of use
-  pub sound_pushed : (e : PropKey × Complete) → length slots + 1 ≤ most → IsSound index (slots ++ e ∷ []) order most
+  pub sound_pushed : (e : PropKey × Complete) → length slots + 1 ≤ most → IsSoundDictionary index (slots ++ e ∷ []) order most
   sound_pushed e room = record {
     rising = sound.rising;
     within = λ i lt. omega (arith, sound.within i lt, length-append slots (e ∷ []));
@@ -124,7 +124,7 @@ module _ (index : PropKey → Option ℕ) (slots : Slots) (order : List ℕ) (mo
 
   -- the index has a slot for a key that is not in use
   pub sound_indexed : (key : PropKey) (s : ℕ) (now : PropKey → Option ℕ) → LacksKey (in_use slots order) key → s < length slots → key_at slots s ≡ key
-      → ((q : PropKey) → now q ≡ cond (key_eq key q) (Some s) (index q)) → IsSound now slots order most
+      → ((q : PropKey) → now q ≡ cond (key_eq key q) (Some s) (index q)) → IsSoundDictionary now slots order most
   sound_indexed key s now lacks inside names update = record {
     rising = sound.rising;
     within = sound.within;
@@ -147,7 +147,7 @@ module _ (index : PropKey → Option ℕ) (slots : Slots) (order : List ℕ) (mo
 
   -- a slot comes into use, behind all others
   pub sound_listed : (s : ℕ) → ((i : ℕ) → i < length order → slice_index order i < s) → s < length slots → length order < length slots → index (key_at slots s) ≡ Some s
-      → IsSound index slots (order ++ s ∷ []) most
+      → IsSoundDictionary index slots (order ++ s ∷ []) most
   sound_listed s below inside fits h = record {
     rising = λ i j l lt. elim (cases_lt j (length order)) [
       | inl lj ↦ omega (arith, left i (omega arith), left j lj, sound.rising i j l lj)
@@ -175,7 +175,7 @@ module _ (index : PropKey → Option ℕ) (slots : Slots) (order : List ℕ) (mo
 
   module _ (place : ℕ) (inside : place < length order) where
     -- a slot goes out of use
-    pub sound_removed : IsSound index slots (remove order place) most
+    pub sound_removed : IsSoundDictionary index slots (remove order place) most
     sound_removed = record {
       rising = λ i j l lt. elim (cases_lt i place) [
         | inl a ↦ elim (cases_lt j place) [
@@ -238,7 +238,7 @@ module _ (index : PropKey → Option ℕ) (slots : Slots) (order : List ℕ) (mo
             ]
           ]
 
-      pub sound_written : IsSound index written order most
+      pub sound_written : IsSoundDictionary index written order most
       sound_written = record {
         rising = sound.rising;
         within = λ i lt. omega (arith, sound.within i lt, length-set slots slot (key_at slots slot, property));

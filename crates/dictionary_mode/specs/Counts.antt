@@ -1,4 +1,5 @@
--- A set of numbers below a room, kept as a tree of counts: node 1 is the root, the nodes 2 i and 2 i + 1 are below node i, and the number s has the leaf room + s.
+-- A set of numbers below a room, kept as a tree of counts: node 1 is the root, the nodes 2 i and 2 i + 1 are below node i,
+-- and the number s has the leaf room + s.
 use Rattle.std.specs.Prelude.{◌≡◌, ◌≢◌, ◌+◌, ◌*◌, ◌/◌, ◌^◌, ◌<◌, ◌≤◌, ℕ, zero, suc, List, [], ◌∷◌, drop, length, remove, slice_index}
 
 -- what is seen of a set of numbers: the list of them, which rises, and how many numbers there can be

@@ -9,7 +9,7 @@ abbrev pub in_use : List (PropKey × Complete) → List ℕ → List (PropKey ×
 in_use slots order = map (entry_at slots) order
 
 -- there may be so many slots. The index gives each key in use its slot. It may give a slot that is out of use, but never another key's
-pub record IsSound (index : PropKey → Option ℕ) (slots : List (PropKey × Complete)) (order : List ℕ) (most : ℕ) : Type 0 where
+pub record IsSoundDictionary (index : PropKey → Option ℕ) (slots : List (PropKey × Complete)) (order : List ℕ) (most : ℕ) : Type 0 where
   pub rising : (i j : ℕ) → i < j → j < length order → slice_index order i < slice_index order j
   pub within : (i : ℕ) → i < length order → slice_index order i < length slots
   pub indexed : (i : ℕ) → i < length order → index (key_at slots (slice_index order i)) ≡ Some (slice_index order i)

@@ -1,3 +1,5 @@
+//! The dictionary: slots in the order of their insertion, the slots in use, and the table of keys.
+
 ghost use Rattle.std.specs.Prelude.{◌≡◌, ◌<◌, ◌++◌, ◌∷◌, ◌↔◌, [], length, take, IsOkAnd, IfOk, IfSome, IsNone, OnOk, OnErr};
 ghost use Rattle.property_keys.specs.Counts.{counted};
 ghost use Rattle.dictionary_mode.specs.Entries.{HasOneEach, IsPlaceOf, LacksKey, Removes, key_at, property_at, with_property};
@@ -31,13 +33,13 @@ impl Model for Dictionary {
     ghost use Rattle.descriptors.specs.declared.property.Complete.{Complete};
     ghost use Rattle.indexmap.specs.IndexMap.{get};
     ghost use Rattle.property_keys.specs.contracts.keys.PropKeyPartialEq.TheImpl.{eq-value};
-    ghost use Rattle.dictionary_mode.specs.Places.{IsSound, in_use};
+    ghost use Rattle.dictionary_mode.specs.Places.{IsSoundDictionary, in_use};
 
     ghost Value = { List (PropKey × Complete) };
 
     ghost view = { λ d. in_use d.slots.items d.order.list };
 
-    ghost invariant = { λ d. IsSound (λ key. get eq-value.it d.index key) d.slots.items d.order.list d.order.room };
+    ghost invariant = { λ d. IsSoundDictionary (λ key. get eq-value.it d.index key) d.slots.items d.order.list d.order.room };
 }
 
 impl Dictionary {

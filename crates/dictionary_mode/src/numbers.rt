@@ -1,3 +1,5 @@
+//! A set of numbers below a room, kept as a tree of counts.
+
 ghost use Rattle.std.specs.Prelude.{◌≡◌, ◌≢◌, ◌+◌, ◌*◌, ◌/◌, ◌^◌, ◌++◌, ◌∷◌, ◌<◌, ◌≤◌, [], ℕ, length, slice_index, slice_set, IfOk, MatchBool};
 ghost use Rattle.dictionary_mode.specs.Counts.{HasPlace, IsSum, Lacks, TakesOut, room_of};
 

@@ -1,3 +1,5 @@
+//! Dictionaries beside plain lists of properties.
+
 mod rows;
 
 use crate::Dictionary;

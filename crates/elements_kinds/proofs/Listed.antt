@@ -11,7 +11,7 @@ use Rattle.descriptors.specs.declared.property.Complete.{Complete}
 use Rattle.elements_kinds.specs.Maps.{with_value}
 use Rattle.elements_kinds.specs.Properties.{entries_from, plain, properties_of}
 use Rattle.elements_kinds.specs.Rules.{end_of, end_of_keys}
-use Rattle.elements_kinds.specs.Sound.{IsSound}
+use Rattle.elements_kinds.specs.Sound.{IsSoundStore}
 use Rattle.elements_kinds.proofs.FiniteMaps.{eq_by_nat, to_T, both, same_properties, get-from, entries-from, get-insert, get-remove, end_is}
 
 abbrev pub Values : Type 0
@@ -194,7 +194,7 @@ is_some-plain : (o : Option Value) → is_some (option_map plain o) ≡ is_some 
 is_some-plain None = refl
 is_some-plain (Some v) = refl
 
-pub end_sound : (vs : Values) (end : ℕ) → IsSound vs end → end_of (properties_of vs) ≡ end
+pub end_sound : (vs : Values) (end : ℕ) → IsSoundStore vs end → end_of (properties_of vs) ≡ end
 end_sound vs end sound =
     end_is (properties_of vs) end (λ q ge. get-listed vs q ∙ ap (option_map plain) (sound.past q ge))
     (λ l. ap is_some (get-listed vs (end - 1)) ∙ is_some-plain (get_or vs (end - 1) None) ∙ sound.last l)
@@ -202,7 +202,7 @@ end_sound vs end sound =
 pub present-listed : (vs : Values) (i : ℕ) → map_of.contains_key (properties_of vs) i ≡ is_some (get_or vs i None)
 present-listed vs i = ap is_some (get-listed vs i) ∙ is_some-plain (get_or vs i None)
 
-pub end_within : (vs : Values) (end : ℕ) → IsSound vs end → end ≤ length vs
+pub end_within : (vs : Values) (end : ℕ) → IsSoundStore vs end → end ≤ length vs
 end_within vs end sound =
     elim (cases_lt (length vs) end) [
       | inl lt ↦ absurd (none_is (get_or vs (end - 1) None) (get_or_past vs (end - 1) None (omega arith)) (sound.last (omega arith)))

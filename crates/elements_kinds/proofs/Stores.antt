@@ -15,7 +15,7 @@ use Rattle.elements_kinds.specs.declared.kinds.ElementsKind.TheVariants as kind
 use Rattle.elements_kinds.specs.Kinds.{class_in, class_of, holey_from, is_dictionary, is_holey, join, kind_of}
 use Rattle.elements_kinds.specs.Properties.{plain, properties_of}
 use Rattle.elements_kinds.specs.Rules.{View, start, capacity_for, defined, end_of, is_dictionary_after, kind_for, leaves_hole, leaves_store, removed}
-use Rattle.elements_kinds.specs.Sound.{IsSound, grown}
+use Rattle.elements_kinds.specs.Sound.{IsSoundStore, grown}
 use Rattle.elements_kinds.specs.Steps.{steps_down, steps_to_remove}
 use Rattle.elements_kinds.proofs.Listed.{Values, listed_with, listed_without, get-set, get-grown, end_sound, present-listed, empty_listed}
 
@@ -98,7 +98,7 @@ length-grown vs i =
     let a : length (vs ++ holes) ≡ length vs + length holes = length-append vs holes in
     omega arith
 
-module _ (vs : Values) (end : ℕ) (sound : IsSound vs end) where
+module _ (vs : Values) (end : ℕ) (sound : IsSoundStore vs end) where
   module _ (ws : Values) (i : ℕ) (value : Value) (is : ws ≡ set (grown vs i) i (Some value)) where
     inside : i < length (grown vs i)
     inside = let a : i < capacity_for (length vs) i = capacity-above (length vs) i in let e = length-grown vs i in omega arith
@@ -112,7 +112,7 @@ module _ (vs : Values) (end : ℕ) (sound : IsSound vs end) where
     length-put : length ws ≡ capacity_for (length vs) i
     length-put = ap length is ∙ length-set (grown vs i) i (Some value) ∙ length-grown vs i
 
-    pub sound-put : i < 2 ^ 23 → IsSound ws (max end (i + 1))
+    pub sound-put : i < 2 ^ 23 → IsSoundStore ws (max end (i + 1))
     sound-put small = record {
       past = λ q ge. put-other q (omega arith) ∙ sound.past q (omega arith);
       last = λ l. at (cases_lt i end);
@@ -208,13 +208,13 @@ module _ (vs : Values) (end : ℕ) (sound : IsSound vs end) where
         let g : leaves_hole (properties_of vs) i ≡ false = hole-is i true true some f in
         λ t. record { properties = taken t; kind = cond (sym g t) (holey_from (kind_of c h)) (kind_of c h); capacity = length-taken t }
 
-    pub steps-last : (c : Class) (h : Bool) (below : ℕ) → i + 1 ≡ end → IsSound ws below → steps_to_remove (store_view vs c h) i ≡ 2 + steps_down i below
+    pub steps-last : (c : Class) (h : Bool) (below : ℕ) → i + 1 ≡ end → IsSoundStore ws below → steps_to_remove (store_view vs c h) i ≡ 2 + steps_down i below
     steps-last c h below e s =
         let f : eqb (i + 1) end ≡ true = grind (arith, nat_tests, e) in
         let n : end_of (map_of.remove (properties_of vs) i) ≡ below = ap end_of (sym taken) ∙ end_sound ws below s in
         steps_are c h i false true false (within c h i lt) (there-is i true some) (hole-is i true true some f) ∙ ap (λ k. 2 + steps_down i k) n
 
-    pub sound-last : (below : ℕ) → i + 1 ≡ end → below ≤ i → ((q : ℕ) → below ≤ q → q < i → get_or ws q None ≡ None) → (0 < below → is_some (get_or ws (below - 1) None) ≡ true) → IsSound ws below
+    pub sound-last : (below : ℕ) → i + 1 ≡ end → below ≤ i → ((q : ℕ) → below ≤ q → q < i → get_or ws q None ≡ None) → (0 < below → is_some (get_or ws (below - 1) None) ≡ true) → IsSoundStore ws below
     sound-last below e within holes last = record {
       past = λ q ge. elim (cases_lt q i) [
         | inl lt ↦ holes q ge lt
@@ -230,5 +230,5 @@ module _ (vs : Values) (end : ℕ) (sound : IsSound vs end) where
 pub start_removed : (i : ℕ) → start ≡ removed start i
 start_removed i = sym empty_view ∙ view-absent [] 0 nothing class.Smi false i refl ∙ ap (λ v. removed v i) empty_view
   where
-    nothing : IsSound [] 0
+    nothing : IsSoundStore [] 0
     nothing = record { past = λ q ge. refl; last = λ l. absurd (omega arith); room = omega arith }

@@ -4,7 +4,7 @@ use Rattle.property_keys.specs.declared.values.Value.{Value}
 use Rattle.elements_kinds.specs.Rules.{capacity_for}
 
 -- all that is present is below the end, and the last index below it is present
-pub record IsSound (values : List (Option Value)) (end : ℕ) : Type 0 where
+pub record IsSoundStore (values : List (Option Value)) (end : ℕ) : Type 0 where
   pub past : (i : ℕ) → end ≤ i → slice_index_or values i None ≡ None
   pub last : 0 < end → is_some (slice_index_or values (end - 1) None) ≡ true
   pub room : length values < 2 ^ 24

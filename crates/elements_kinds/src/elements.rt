@@ -1,3 +1,5 @@
+//! Elements: a store of words until something does not fit it, and then a dictionary.
+
 ghost use Rattle.std.specs.Prelude.{◌≡◌, IfOk, OnErr, OnOk};
 ghost use Rattle.std.specs.FinMap as map_of;
 ghost use Rattle.property_keys.specs.Counts.{TakesAtMost, counted};

@@ -1,3 +1,5 @@
+//! The two forms that elements are kept in.
+
 ghost use Rattle.std.specs.Prelude.{◌≡◌, IfOk, OnErr, OnOk};
 ghost use Rattle.std.specs.FinMap as map_of;
 ghost use Rattle.property_keys.specs.Counts.{TakesAtMost, counted};

@@ -1,3 +1,5 @@
+//! A list of array indices.
+
 ghost use Rattle.std.specs.Prelude.{◌≡◌, ◌<◌, ◌++◌, ◌∷◌, [], length, slice_index, OnErr, OnOk};
 
 use property_keys::NoMemory;

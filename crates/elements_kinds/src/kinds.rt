@@ -1,3 +1,5 @@
+//! The kinds of elements, and the classes of what a word stands for.
+
 ghost use Rattle.std.specs.Prelude.{◌≡◌, MatchOption};
 
 use property_keys::Value;

@@ -1,3 +1,5 @@
+//! The elements that became a dictionary: a map from indices to properties.
+
 ghost use Rattle.std.specs.Prelude.{◌≡◌, ◌++◌, ◌∷◌, [], if◌then◌else◌, IfOk, OnErr, OnOk};
 ghost use Rattle.std.specs.FinMap as map_of;
 ghost use Rattle.elements_kinds.specs.Maps.{properties_in, with_value};

@@ -1,3 +1,5 @@
+//! The properties that a store can hold: data properties whose three flags are true.
+
 ghost use Rattle.std.specs.Prelude.{◌≡◌, false, MatchOption};
 ghost use Rattle.elements_kinds.specs.Properties.{plain};
 ghost use Rattle.elements_kinds.specs.Rules.{is_plain};

@@ -1,3 +1,5 @@
+//! Words of one class, with holes.
+
 ghost use Rattle.std.specs.Prelude.{◌≡◌, ◌+◌, ◌-◌, ◌*◌, ◌<◌, ◌≤◌, ◌^◌, ◌++◌, [], length, map, replicate, slice_index_or, slice_set, take, IfOk, IfSome, IsTrue, OnErr, OnOk};
 ghost use Rattle.property_keys.specs.Counts.{counted};
 ghost use Rattle.slot_storage.specs.Steps.{counted_times};

@@ -1,3 +1,5 @@
+//! Elements as words, one for each index below the capacity.
+
 ghost use Rattle.std.specs.Prelude.{◌≡◌, ◌+◌, ◌-◌, ◌<◌, ◌≤◌, ◌^◌, ℕ, false, true, is_some, length, slice_index_or, slice_set, IfOk, MatchOption, OnErr, OnOk};
 ghost use Rattle.std.specs.FinMap as map_of;
 ghost use Rattle.property_keys.specs.Counts.{TakesAtMost, counted};
@@ -42,7 +44,7 @@ impl Model for Store {
     ghost use Rattle.elements_kinds.specs.Kinds.{kind_of};
     ghost use Rattle.elements_kinds.specs.Properties.{properties_of};
     ghost use Rattle.elements_kinds.specs.Rules.{View};
-    ghost use Rattle.elements_kinds.specs.Sound.{IsSound};
+    ghost use Rattle.elements_kinds.specs.Sound.{IsSoundStore};
 
     ghost Value = { View };
 
@@ -54,7 +56,7 @@ impl Model for Store {
       capacity = length s.slots.values;
     } };
 
-    ghost invariant = { λ s. IsSound s.slots.values s.end };
+    ghost invariant = { λ s. IsSoundStore s.slots.values s.end };
 }
 
 impl Store {

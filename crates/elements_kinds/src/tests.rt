@@ -1,3 +1,5 @@
+//! Elements beside finite maps from indices to properties.
+
 ghost use Rattle.std.specs.Prelude.{◌≡◌};
 ghost use Rattle.elements_kinds.specs.Rules.{IsGood};
 

@@ -1,13 +1,12 @@
+//! What a word of a class stands for.
+
 ghost use Rattle.std.specs.Prelude.{◌≡◌, ◌<◌, ◌-◌, ◌^◌, IfSome, IsTrue};
 ghost use Rattle.elements_kinds.specs.Words.{IsGoodValue, decoded, hole_of, smi_of, tagged_of, takes, whole_of};
 ghost use Rattle.property_keys.specs.Wholes.{IsWhole};
 ghost use Rattle.elements_kinds.specs.Kinds.{is_smi, join};
 
 use crate::kinds::Class;
-use property_keys::{ObjectId, SymbolId, TextId, Value};
-
-/// What is added to a whole number, so that it is a word.
-const MOST_WHOLE: i64 = 0x1F_FFFF_FFFF_FFFF;
+use property_keys::{MOST_WHOLE, ObjectId, SymbolId, TextId, Value};
 
 /// So many words stand for small numbers.
 const SMI_WORDS: u64 = 0x1_0000_0000;

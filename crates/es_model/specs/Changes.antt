@@ -17,7 +17,8 @@ use Rattle.es_model.specs.declared.kinds.ObjectKind.{ObjectKind}
 use Rattle.es_model.specs.declared.kinds.ObjectKind.TheVariants as kind_of
 use Rattle.es_tree.specs.declared.numbers.FunctionNo.{FunctionNo}
 use Rattle.es_tree.specs.declared.numbers.SiteId.{SiteId}
-use Rattle.es_model.specs.Objects.{Object, object_at, put_object, with_properties, add_property, replace_property, remove_property, new_object_of, is_proxy, revoked_kind, unmapped_kind}
+use Rattle.es_model.specs.Objects.{Object, object_at, put_object, with_properties, add_property, replace_property}
+use Rattle.es_model.specs.Objects.{remove_property, new_object_of, is_proxy, revoked_kind, unmapped_kind}
 use Rattle.es_model.specs.Events.{Event, Origin, Way, Made, MadePrototype, ProtoSet, Closed, Constructed, Accessed, put_event, removal_event}
 use Rattle.es_model.specs.World.{Lists, World, own, proto, kind, extensible, definition, new_object, walk}
 

@@ -9,7 +9,8 @@ use Rattle.es_model.specs.declared.running.Running.{Running}
 use Rattle.es_model.specs.Completions.{Completion}
 use Rattle.es_model.specs.World.{Lists, World}
 use Rattle.es_model.specs.Changes.{changed, charged, printed_more}
-use Rattle.es_model.specs.Program.{Program, done, look, change, charge, ask, part, nest, print, Task, Of, Evaluating, Statements, Round, Outcome, Ended, Halt, Server}
+use Rattle.es_model.specs.Program.{Program, done, look, change, charge, ask, part, nest, print, Task}
+use Rattle.es_model.specs.Program.{Of, Evaluating, Statements, Round, Outcome, Ended, Halt, Server}
 use Rattle.es_model.specs.Servers.{Programs}
 use Rattle.es_model.specs.Grows.{Grows}
 use Rattle.es_model.specs.Fits.{Fits, IsKnownCompletion, IsKnownRequest}

@@ -1,3 +1,5 @@
+//! Which objects are called and constructed, and what GetMethod finds (ECMA-262, 7.2.3, 7.2.4, 7.3.11).
+
 ghost use Rattle.std.specs.Prelude.{◌≡◌};
 ghost use Rattle.es_model.specs.programs.Testing.{is_callable_kind, is_constructor_kind};
 

@@ -11,7 +11,8 @@ use Rattle.es_tree.specs.Tree.{Tree}
 use Rattle.es_model.specs.declared.kinds.ObjectKind.{ObjectKind}
 use Rattle.es_model.specs.declared.kinds.ObjectKind.TheVariants as kind_of
 use Rattle.es_model.specs.declared.requests.Request.{Request}
-use Rattle.es_model.specs.declared.requests.Request.TheVariants.{GetOwn, Define, Has, Read, Write, Delete, Keys, Proto, SetProto, Extensible, Prevent, Call, Construct, Work, Print}
+use Rattle.es_model.specs.declared.requests.Request.TheVariants.{GetOwn, Define, Has, Read, Write, Delete, Keys, Proto}
+use Rattle.es_model.specs.declared.requests.Request.TheVariants.{SetProto, Extensible, Prevent, Call, Construct, Work, Print}
 use Rattle.es_model.specs.Events.{Way, Reads, Writes, class_of}
 use Rattle.es_model.specs.World.{kind}
 use Rattle.es_model.specs.Changes.{Accessing}

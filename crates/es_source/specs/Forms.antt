@@ -1,6 +1,7 @@
 -- The forms of names, numbers and punctuators (ECMA-262, 12.7 to 12.9). A form at the front of the characters gives what
 -- the token is and how many characters it takes, or None where the characters at the front are a bad token.
-use Rattle.std.specs.Prelude.{◌||◌, ◌&&◌, ◌==◌, ◌+◌, ◌-◌, ◌^◌, ℕ, suc, Bool, not, List, [], ◌∷◌, length, take, drop, codes, nat_eq, nat_lt, nat_le, slice_get, Option, Some, None, option_and_then, unwrap_or, take_while, flat_map, fold, pos, bytes_eq, if◌then◌else◌}
+use Rattle.std.specs.Prelude.{◌||◌, ◌&&◌, ◌==◌, ◌+◌, ◌-◌, ◌^◌, ℕ, suc, Bool, not, List, [], ◌∷◌, length, take, drop, codes, nat_eq, nat_lt, nat_le}
+use Rattle.std.specs.Prelude.{slice_get, Option, Some, None, option_and_then, unwrap_or, take_while, flat_map, fold, pos, bytes_eq, if◌then◌else◌}
 use Rattle.std.specs.List.{starts_with}
 use Rattle.std.specs.Char.Escape.{encode_utf16}
 use Rattle.std.specs.Str.Parse.{digits_value}

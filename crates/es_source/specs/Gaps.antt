@@ -1,5 +1,6 @@
 -- What may stand between two tokens: white space, line terminators and comments (ECMA-262, 12.2 to 12.4).
-use Rattle.std.specs.Prelude.{◌||◌, ◌+◌, ℕ, zero, suc, not, List, [], ◌∷◌, length, drop, codes, nat_eq, Option, Some, None, option_map, Result, Ok, Err, take_while, if◌then◌else◌}
+use Rattle.std.specs.Prelude.{◌||◌, ◌+◌, ℕ, zero, suc, not, List, [], ◌∷◌, length, drop, codes, nat_eq}
+use Rattle.std.specs.Prelude.{Option, Some, None, option_map, Result, Ok, Err, take_while, if◌then◌else◌}
 use Rattle.std.specs.List.{starts_with}
 use Rattle.property_keys.specs.Blanks.{is_white_space, is_line_terminator}
 use Rattle.es_source.specs.Characters.{begins}

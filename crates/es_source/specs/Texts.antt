@@ -1,6 +1,7 @@
 -- The form of texts (ECMA-262, 12.9.4). A part gives how many characters it takes and the code point that it stands for, if it stands for one;
 -- None where the text is bad.
-use Rattle.std.specs.Prelude.{◌||◌, ◌&&◌, ◌==◌, ◌+◌, ℕ, zero, suc, pred, Bool, List, [], ◌∷◌, ◌++◌, length, take, drop, codes, nat_lt, nat_le, Option, Some, None, option_map, option_and_then, bytes_eq, if◌then◌else◌}
+use Rattle.std.specs.Prelude.{◌||◌, ◌&&◌, ◌==◌, ◌+◌, ℕ, zero, suc, pred, Bool, List, [], ◌∷◌, ◌++◌, length, take, drop, codes}
+use Rattle.std.specs.Prelude.{nat_lt, nat_le, Option, Some, None, option_map, option_and_then, bytes_eq, if◌then◌else◌}
 use Rattle.std.specs.List.{list_all}
 use Rattle.std.specs.Char.Escape.{encode_utf16}
 use Rattle.std.specs.Option.{option_map_or}

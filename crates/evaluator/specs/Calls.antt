@@ -58,8 +58,8 @@ callee_valued here n this c = then_value (λ f. arguments_from here (invocation.
 abbrev pub callee_reference : Context → NodeId → Reference → Program
 callee_reference here n r = get_value here r (callee_valued here n (base_of r))
 
--- A member access as the function is evaluated to a reference, with its turn. The function of another kind has no receiver: a name of the global object gives none
--- (9.1.1.4.10)
+-- A member access as the function is evaluated to a reference, with its turn. The function of another kind has no receiver: a name of the global object gives
+-- none (9.1.1.4.10)
 abbrev pub call_of : Context → NodeId → (callee : NodeId) → Option Node → Program
 call_of here n callee (Some (node.Access (access.Member base name read write))) =
     charge 1 (access_reference here (access.Member base name read write) (callee_reference here n))

@@ -42,8 +42,8 @@ abbrev pub declare_functions : Context → List DeclaredFunction → Program →
 declare_functions here [] next = next
 declare_functions here (d ∷ ds) next = declare_function here d (declare_functions here ds next)
 
--- The lexical names are bound without a value, the declared functions are made, and then the statements run. The cells of the top scope are the first of the world,
--- and no names of the body that runs. A script ends as a body does, and its value is not asked for
+-- The lexical names are bound without a value, the declared functions are made, and then the statements run. The cells of the top scope are the first of the
+-- world, and no names of the body that runs. A script ends as a body does, and its value is not asked for
 abbrev pub script_program : Tree → Program
 script_program script =
     enter_scope (context script (script_body script) []) (top_names script) (λ top.

@@ -37,7 +37,8 @@ use Rattle.evaluator.specs.Accesses.{access_reference}
 use Rattle.evaluator.specs.Contexts.{Context, convert, evaluate, evaluate_last, given, gives, node_at, normal}
 use Rattle.evaluator.specs.Errors.{join, not_an_object}
 use Rattle.evaluator.specs.References.{delete_reference, get_value, put_value, resolve}
-use Rattle.evaluator.specs.Values.{calculate, is_nullish, is_text, is_truthy, or_out, type_name, whole_of}
+use Rattle.es_model.specs.programs.Testing.{is_truth}
+use Rattle.evaluator.specs.Values.{calculate, is_nullish, is_text, or_out, type_name, whole_of}
 
 -- ---- unary operators (13.5)
 
@@ -88,7 +89,7 @@ minus_valued c = then_value (λ v. convert operation.ToWhole v minus_converted) 
 
 -- ! (13.5.7)
 abbrev pub not_value : Value → Program
-not_value v = look (λ l. gives (value.Bool (not (is_truthy l v))))
+not_value v = look (λ l. gives (value.Bool (not (is_truth l v))))
 
 abbrev pub not_valued : Completion → Program
 not_valued c = then_value not_value c
@@ -192,8 +193,8 @@ left_valued here op right c = then_value (λ a. evaluate here right (right_value
 -- ---- && || ?? (13.13) and ?: (13.14)
 
 abbrev pub goes_right : ShortOperator → Lists → Value → Bool
-goes_right short.And l v = is_truthy l v
-goes_right short.Or l v = not (is_truthy l v)
+goes_right short.And l v = is_truth l v
+goes_right short.Or l v = not (is_truth l v)
 goes_right short.Coalesce l v = is_nullish v
 
 abbrev pub short_value : Context → ShortOperator → NodeId → Value → Program
@@ -203,7 +204,7 @@ abbrev pub short_valued : Context → ShortOperator → NodeId → Completion �
 short_valued here op right c = then_value (short_value here op right) c
 
 abbrev pub test_value : Context → NodeId → NodeId → Value → Program
-test_value here taken other v = look (λ l. if is_truthy l v then evaluate_last here taken else evaluate_last here other)
+test_value here taken other v = look (λ l. if is_truth l v then evaluate_last here taken else evaluate_last here other)
 
 abbrev pub test_valued : Context → NodeId → NodeId → Completion → Program
 test_valued here taken other c = then_value (test_value here taken other) c

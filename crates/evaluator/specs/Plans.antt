@@ -184,8 +184,8 @@ job_program here (job.Statements list i) = statements_program here.script here.b
 
 -- ---- plans
 
--- The plan is where the program stops: at its end, at a question or at a part of it, and the item stands for the rest. The program began with the names of the outer
--- context, and those of the inner one are in force now
+-- The plan is where the program stops: at its end, at a question or at a part of it, and the item stands for the rest. The program began with the names of the
+-- outer context, and those of the inner one are in force now
 abbrev pub Plans : Context → Context → HeapView → HeapView → World → Stage → Result Plan Stop → Type 0
 Plans outer inner old new w stage (Err NoMemory) = Unit {0}
 Plans outer inner old new w (AtEnd c v) (Ok (plan.Ends e)) = (ended e ≡ c) × Goes old new w v

@@ -57,8 +57,8 @@ resolve_bound here name binding.Callee next = next (reference.Callee name (objec
 abbrev pub resolve : Context → Named → (Reference → Program) → Program
 resolve here named next = make_text named.name (λ t. resolve_bound here t named.binding next)
 
--- ---- the properties of a value: an object's own method; of a primitive value, for which no object is made, its own properties as a String object has them, and
--- then the prototype of its class, which is one link
+-- ---- the properties of a value: an object's own method; of a primitive value, for which no object is made, its own properties as a String object has them,
+-- and then the prototype of its class, which is one link
 
 abbrev pub prototype_of : Class → ObjectId
 prototype_of c = object_of (intrinsic.Prototype c)

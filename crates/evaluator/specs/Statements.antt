@@ -20,7 +20,7 @@ use Rattle.es_model.specs.programs.Abrupt.{then_value}
 use Rattle.evaluator.specs.Contexts.{Context, evaluate, evaluate_last, evaluate_named, falls, node_at}
 use Rattle.evaluator.specs.Errors.{make_text}
 use Rattle.evaluator.specs.Scopes.{enter_scope, enter_with, initialise}
-use Rattle.evaluator.specs.Values.{is_truthy}
+use Rattle.es_model.specs.programs.Testing.{is_truth}
 
 -- ---- the lists of statements of the tree
 
@@ -90,7 +90,8 @@ declare_all here [] = falls
 declare_all here (d ∷ ds) =
     elim d.value as (λ v. Program) [
       | None ↦ initialise here d.named.binding value.Undefined (declare_all here ds)
-      | Some n ↦ make_text d.named.name (λ name. evaluate_named here (Some name) n (λ c. then_value (λ v. initialise here d.named.binding v (declare_all here ds)) c))
+      | Some n ↦ make_text d.named.name (λ name.
+          evaluate_named here (Some name) n (λ c. then_value (λ v. initialise here d.named.binding v (declare_all here ds)) c))
     ]
 
 abbrev pub declared_in : Option Node → List Declared
@@ -113,7 +114,7 @@ otherwise here None = falls
 otherwise here (Some n) = evaluate_last here n
 
 abbrev pub if_valued : Context → NodeId → Option NodeId → Completion → Program
-if_valued here taken other c = then_value (λ v. look (λ l. if is_truthy l v then evaluate_last here taken else otherwise here other)) c
+if_valued here taken other c = then_value (λ v. look (λ l. if is_truth l v then evaluate_last here taken else otherwise here other)) c
 
 -- ---- loops (14.7). A round is a part of its own, so that a loop goes on without an end
 
@@ -128,7 +129,7 @@ while_again here n Break = falls
 while_again here n abrupt = done abrupt
 
 abbrev pub while_valued : Context → NodeId → NodeId → Completion → Program
-while_valued here n body c = then_value (λ v. look (λ l. if is_truthy l v then evaluate here body (while_again here n) else falls)) c
+while_valued here n body c = then_value (λ v. look (λ l. if is_truth l v then evaluate here body (while_again here n) else falls)) c
 
 -- ForBodyEvaluation (14.7.4.3): the test, the body, the last part of the head, and again
 abbrev pub for_stepped : Context → NodeId → Completion → Program
@@ -145,7 +146,7 @@ for_again here n step Break = falls
 for_again here n step abrupt = done abrupt
 
 abbrev pub for_valued : Context → NodeId → Option NodeId → NodeId → Completion → Program
-for_valued here n step body c = then_value (λ v. look (λ l. if is_truthy l v then evaluate here body (for_again here n step) else falls)) c
+for_valued here n step body c = then_value (λ v. look (λ l. if is_truth l v then evaluate here body (for_again here n step) else falls)) c
 
 abbrev pub for_round : Context → NodeId → Option NodeId → Option NodeId → NodeId → Program
 for_round here n None step body = evaluate here body (for_again here n step)

@@ -1,5 +1,6 @@
 -- Values in a running body: what needs no question.
-use Rattle.std.specs.Prelude.{ℕ, Bool, true, false, not, ◌&&◌, ◌||◌, ◌≡◌, if◌then◌else◌, Option, Some, None, List, [], ◌∷◌, codes, ℤ, pos, neg_ℤ, int_le, ◌+ℤ◌, ◌-ℤ◌, ◌*ℤ◌, int_rem, nat_eq, slice_get}
+use Rattle.std.specs.Prelude.{ℕ, Bool, true, false, not, ◌&&◌, ◌||◌, ◌≡◌, if◌then◌else◌, Option, Some, None, List}
+use Rattle.std.specs.Prelude.{[], ◌∷◌, codes, ℤ, pos, neg_ℤ, int_le, ◌+ℤ◌, ◌-ℤ◌, ◌*ℤ◌, int_rem, nat_eq, slice_get}
 use Rattle.std.specs.Ordering.{int_eq}
 use Rattle.property_keys.specs.declared.identifiers.TextId.{TextId}
 use Rattle.property_keys.specs.declared.keys.PropKey.{PropKey}
@@ -8,30 +9,14 @@ use Rattle.property_keys.specs.declared.values.Value.{Value}
 use Rattle.property_keys.specs.declared.values.Value.TheVariants as value
 use Rattle.property_keys.specs.Keys.{key_of}
 use Rattle.property_keys.specs.Wholes.{most_whole}
-use Rattle.es_model.specs.declared.kinds.ObjectKind.{ObjectKind}
-use Rattle.es_model.specs.declared.kinds.ObjectKind.TheVariants as kind_of
 use Rattle.es_model.specs.declared.start_texts.StartText.TheVariants as start
 use Rattle.es_model.specs.StartTexts.{text_number}
 use Rattle.es_model.specs.World.{Lists, kind, units_of}
 use Rattle.es_model.specs.Program.{Program, look}
+use Rattle.es_model.specs.programs.Testing.{is_callable_kind}
 use Rattle.evaluator.specs.declared.references.Arithmetic.{Arithmetic}
 use Rattle.evaluator.specs.declared.references.Arithmetic.TheVariants as arithmetic
 use Rattle.evaluator.specs.Errors.{make_text, out_of_profile}
-
--- ---- ToBoolean (7.1.2)
-
-abbrev pub is_empty : List ℕ → Bool
-is_empty [] = true
-is_empty (u ∷ us) = false
-
-abbrev pub is_truthy : Lists → Value → Bool
-is_truthy l value.Undefined = false
-is_truthy l value.Null = false
-is_truthy l (value.Bool b) = b
-is_truthy l (value.Whole n) = not (int_eq n (pos 0))
-is_truthy l (value.Text t) = not (is_empty (units_of l t))
-is_truthy l (value.Symbol s) = true
-is_truthy l (value.Object o) = true
 
 abbrev pub is_nullish : Value → Bool
 is_nullish value.Undefined = true
@@ -89,12 +74,6 @@ calculate arithmetic.Remainder a b = if int_eq b (pos 0) then None else whole_of
 
 -- ---- typeof (13.5.3, table 41)
 
-abbrev pub is_callable : ObjectKind → Bool
-is_callable (kind_of.Function function constructor strict) = true
-is_callable (kind_of.Builtin row constructor proxy) = true
-is_callable (kind_of.Proxy target handler callable constructor) = callable
-is_callable other = false
-
 abbrev pub type_name : Lists → Value → List ℕ
 type_name l value.Undefined = codes "undefined"
 type_name l value.Null = codes "object"
@@ -102,4 +81,4 @@ type_name l (value.Bool b) = codes "boolean"
 type_name l (value.Whole n) = codes "number"
 type_name l (value.Text t) = codes "string"
 type_name l (value.Symbol s) = codes "symbol"
-type_name l (value.Object o) = if is_callable (kind l o) then codes "function" else codes "object"
+type_name l (value.Object o) = if is_callable_kind (kind l o) then codes "function" else codes "object"

@@ -1,3 +1,5 @@
+//! The cells of the names that are in force where a body is evaluated.
+
 ghost use Rattle.std.specs.Prelude.{◌≡◌, ◌++◌, ◌∷◌, [], OnOk, length, take};
 ghost use Rattle.es_model.specs.World.{World};
 ghost use Rattle.object_heap.specs.Stands.{Goes, StandsFor};

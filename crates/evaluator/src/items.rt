@@ -1,3 +1,5 @@
+//! What a body still has to do: the items of the control stack.
+
 use crate::cells::Cells;
 use crate::references::{Arithmetic, Finish, Invocation, Reference};
 use es_model::{Completion, Part, Request, Running, Values};

@@ -20,7 +20,7 @@ use crate::reading::get_value;
 use crate::references::{Arithmetic, Finish, Reference};
 use crate::requests::{ask_of_two, convert, is_less};
 use crate::tree::{comma_at, node_at};
-use crate::values::{goes_right, is_truthy, type_text};
+use crate::values::{goes_right, type_text};
 use crate::writing::put_value;
 use es_model::{Operation, Running, Stop};
 use es_tree::{
@@ -422,7 +422,7 @@ fn test_value<L: Ledger>(
 ) -> Result<Plan, Stop>
     ensures { PlansAt script.now body cells.now heap.old heap.new (λ here. test_value here then otherwise value) result }
 {
-    let node = if is_truthy(heap, value) {
+    let node = if heap.is_truth(value) {
         then
     } else {
         otherwise
@@ -496,7 +496,7 @@ pub(crate) fn operator_valued<L: Ledger>(
             )
         }
         OperatorItem::NotValued => {
-            Ok(Plan::Ends(Ending::Gives(Value::Bool(!is_truthy(heap, value)))))
+            Ok(Plan::Ends(Ending::Gives(Value::Bool(!heap.is_truth(value)))))
         }
         OperatorItem::LeftValued { operator, right } => Ok(wait_for(
             right,

@@ -1,3 +1,5 @@
+//! References, and what is called or constructed.
+
 use es_model::CellNo;
 use es_tree::SiteId;
 use property_keys::{PropKey, TextId, Value};

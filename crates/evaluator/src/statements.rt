@@ -17,7 +17,6 @@ use crate::cells::{Cells, make_cells};
 use crate::endings::value_of;
 use crate::items::{Ending, Item, Job, Plan, StatementItem};
 use crate::tree::{node_at, statement_at};
-use crate::values::is_truthy;
 use es_model::{Part, Running, Stop};
 use es_tree::{Checked, Node, NodeId, Statement};
 use object_heap::Heap;
@@ -320,7 +319,7 @@ fn while_valued<L: Ledger>(
     match value_of(end) {
         Err(end) => Ok(Plan::Ends(end)),
         Ok(value) => {
-            if is_truthy(heap, value) {
+            if heap.is_truth(value) {
                 Ok(wait_for(statement, StatementItem::WhileAgain { node }))
             } else {
                 Ok(falls())
@@ -345,7 +344,7 @@ fn for_valued<L: Ledger>(
     match value_of(end) {
         Err(end) => Ok(Plan::Ends(end)),
         Ok(value) => {
-            if is_truthy(heap, value) {
+            if heap.is_truth(value) {
                 Ok(wait_for(statement, StatementItem::ForAgain { node, step }))
             } else {
                 Ok(falls())
@@ -408,7 +407,7 @@ fn if_valued<L: Ledger>(
     match value_of(end) {
         Err(end) => Ok(Plan::Ends(end)),
         Ok(value) => {
-            if is_truthy(heap, value) {
+            if heap.is_truth(value) {
                 return Ok(last(then));
             }
             match otherwise {

@@ -6,28 +6,15 @@ ghost use Rattle.es_model.specs.World.{World, number_of};
 ghost use Rattle.evaluator.specs.Assignments.{stepped};
 ghost use Rattle.evaluator.specs.Operators.{goes_right};
 ghost use Rattle.evaluator.specs.declared.references.Arithmetic.TheVariants as arithmetic;
-ghost use Rattle.evaluator.specs.Values.{calculate, is_callable, is_length, is_nullish, is_own_key, is_text, is_truthy, type_name, whole_of};
+ghost use Rattle.evaluator.specs.Values.{calculate, is_length, is_nullish, is_own_key, is_text, type_name, whole_of};
 ghost use Rattle.object_heap.specs.Stands.{Goes, StandsFor};
 
 use crate::references::Arithmetic;
 use crate::texts::{text_len, text_unit, units_of};
-use es_model::{ObjectKind, StartText};
+use es_model::StartText;
 use es_tree::ShortOperator;
 use object_heap::Heap;
-use property_keys::{NoMemory, PropKey, TextId, Value};
-
-/// ToBoolean (7.1.2).
-pub(crate) fn is_truthy(heap: &Heap, value: Value) -> bool
-    ensures { (w : World) → StandsFor heap.now w → result ≡ is_truthy w.lists value }
-{
-    match value {
-        Value::Undefined | Value::Null => false,
-        Value::Bool(b) => b,
-        Value::Whole(n) => n != 0,
-        Value::Text(text) => text_len(heap, text) != 0,
-        Value::Symbol(_) | Value::Object(_) => true,
-    }
-}
+use property_keys::{MOST_WHOLE, NoMemory, PropKey, TextId, Value};
 
 fn is_nullish(value: Value) -> bool
     ensures { result ≡ is_nullish value }
@@ -44,8 +31,8 @@ pub(crate) fn goes_right(heap: &Heap, operator: ShortOperator, value: Value) -> 
     ensures { (w : World) → StandsFor heap.now w → result ≡ goes_right operator w.lists value }
 {
     match operator {
-        ShortOperator::And => is_truthy(heap, value),
-        ShortOperator::Or => !is_truthy(heap, value),
+        ShortOperator::And => heap.is_truth(value),
+        ShortOperator::Or => !heap.is_truth(value),
         ShortOperator::Coalesce => is_nullish(value),
     }
 }
@@ -84,14 +71,11 @@ pub(crate) fn is_length(text: TextId) -> bool
 
 // ---- numbers
 
-/// The greatest number of the profile, 2^53 - 1.
-const MOST: i64 = 9007199254740991;
-
 /// A number, where it is one of the profile.
 pub(crate) fn whole_of(n: i64) -> Option<i64>
     ensures { result ≡ whole_of n }
 {
-    if -MOST <= n && n <= MOST {
+    if -MOST_WHOLE <= n && n <= MOST_WHOLE {
         Some(n)
     } else {
         None
@@ -172,21 +156,6 @@ pub(crate) fn step(increment: bool, n: i64) -> Option<i64>
 
 // ---- typeof (13.5.3)
 
-fn is_callable(kind: &ObjectKind) -> bool
-    ensures { result ≡ is_callable kind.now }
-{
-    match kind {
-        ObjectKind::Function { .. } | ObjectKind::Builtin { .. } => true,
-        ObjectKind::Proxy { callable, .. } => *callable,
-        ObjectKind::Ordinary
-        | ObjectKind::Array
-        | ObjectKind::Text(_)
-        | ObjectKind::Wrapper(_)
-        | ObjectKind::Arguments { .. }
-        | ObjectKind::Error => false,
-    }
-}
-
 /// The name of the value's type (table 41).
 fn type_name(heap: &Heap, value: Value) -> &'static [u8]
     ensures name { (w : World) → StandsFor heap.now w → result.now ≡ type_name w.lists value }
@@ -200,7 +169,7 @@ fn type_name(heap: &Heap, value: Value) -> &'static [u8]
         Value::Text(_) => b"string",
         Value::Symbol(_) => b"symbol",
         Value::Object(object) => {
-            if is_callable(heap.kind(object)) {
+            if heap.kind(object).is_callable() {
                 b"function"
             } else {
                 b"object"

@@ -19,7 +19,9 @@ same_representation representation.Pair representation.Pair = true
 same_representation a b = false
 
 abbrev pub change_of : Entry → Entry → List Move
-change_of e f = if same_representation e.representation f.representation then [] else record { place = e.place; old = e.representation; new = f.representation } ∷ []
+change_of e f =
+    if same_representation e.representation f.representation then []
+    else record { place = e.place; old = e.representation; new = f.representation } ∷ []
 
 abbrev pub moves_of : List Entry → List Entry → List Move
 moves_of [] fs = []

@@ -72,4 +72,5 @@ value_of word other = value.Undefined
 
 -- what is written of a value that the representation takes is read as that value
 abbrev pub WordsComeBack : Type 0
-WordsComeBack = (v : Value) (r : Representation) → IsGoodValue v → HasRange v → is_at_or_above r (of_class (value_class v)) ≡ true → value_of (word_of v r) r ≡ v
+WordsComeBack =
+    (v : Value) (r : Representation) → IsGoodValue v → HasRange v → is_at_or_above r (of_class (value_class v)) ≡ true → value_of (word_of v r) r ≡ v

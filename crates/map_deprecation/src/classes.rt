@@ -1,3 +1,5 @@
+//! The classes of values, by the representation that a field needs for them.
+
 ghost use Rattle.std.specs.Prelude.{◌≡◌, ◌≢◌};
 ghost use Rattle.map_deprecation.specs.Classes.{value_class, of_class, is_at_or_above, IsLeastAbove};
 

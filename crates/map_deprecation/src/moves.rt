@@ -1,3 +1,5 @@
+//! The fields whose representations change when an object is moved to another map.
+
 ghost use Rattle.std.specs.Prelude.{◌≡◌, ◌<◌, ◌++◌, ◌∷◌, ◌*◌, [], length, IfOk, OnOk, OnErr, slice_index_or};
 ghost use Rattle.map_store.specs.Views.{IsKnown, map_at};
 ghost use Rattle.map_store.specs.Keys.{steps_on};

@@ -1,3 +1,5 @@
+//! The map that stands for a deprecated one.
+
 ghost use Rattle.std.specs.Prelude.{◌≡◌, true, IfOk};
 ghost use Rattle.map_store.specs.Views.{IsKnown, KeepsEntries, map_at};
 ghost use Rattle.transition_tree.specs.Paths.{Fits};

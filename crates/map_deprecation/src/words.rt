@@ -1,13 +1,12 @@
+//! What the word of a field stands for.
+
 ghost use Rattle.std.specs.Prelude.{◌≡◌, ◌<◌, ◌%◌, ◌^◌, ◌≤ℤ◌, ◌<ℤ◌, ◌+ℤ◌, pos, true};
 ghost use Rattle.property_keys.specs.Wholes.{IsWhole};
 ghost use Rattle.map_deprecation.specs.Classes.{value_class, of_class, is_at_or_above};
 ghost use Rattle.map_deprecation.specs.Words.{IsGoodValue, word_of, value_of, small_bits, small_of, raised, lowered, tagged_value};
 
 use map_store::Representation;
-use property_keys::{ObjectId, SymbolId, TextId, Value};
-
-/// The greatest whole number, 2^53 - 1. A number is written as its sum with it.
-const MOST: i64 = 0x1f_ffff_ffff_ffff;
+use property_keys::{MOST_WHOLE, ObjectId, SymbolId, TextId, Value};
 
 /// The word of a value in a field of a representation that takes it.
 pub fn encode(value: Value, representation: Representation) -> u64
@@ -71,7 +70,7 @@ fn whole_word(n: i64) -> u64
     requires { IsWhole n }
     ensures { result ≡ raised n }
 {
-    (n + MOST) as u64
+    (n + MOST_WHOLE) as u64
 }
 
 /// The number of 32 bits.
@@ -91,7 +90,7 @@ fn whole_number(sum: u64) -> i64
     requires { sum < 2 ^ 63 }
     ensures { result ≡ lowered sum }
 {
-    sum as i64 - MOST
+    sum as i64 - MOST_WHOLE
 }
 
 /// The number of a text, a Symbol or an object.

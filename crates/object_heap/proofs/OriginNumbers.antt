@@ -7,7 +7,8 @@ use Rattle.es_source.specs.declared.place.Place.{Place}
 use Rattle.slack_tracking.specs.declared.OriginKind.{OriginKind}
 use Rattle.slack_tracking.specs.declared.OriginKind.TheVariants as origin
 use Rattle.es_source.specs.Places.{same_place}
-use Rattle.object_heap.specs.Origins.{origin_place, origin_number, same_origin, with_origin}
+use Rattle.object_heap.specs.Origins.{origin_place, origin_number, with_origin}
+use Rattle.slack_tracking.specs.Slack.{same_origin}
 use Rattle.object_heap.specs.Stands.{HeapView}
 
 pub number-is : (heap : HeapView) (kind : OriginKind) (id : OriginId) → id ≡ record { 0 = origin_place heap.origins kind } → id ≡ origin_number heap kind

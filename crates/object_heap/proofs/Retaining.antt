@@ -16,7 +16,8 @@ use Rattle.property_keys.specs.declared.keys.PropKey.TheVariants.{Index, Name, S
 use Rattle.descriptors.specs.declared.property.Complete.{Complete}
 use Rattle.object_heap.specs.Seen.{Seen, seen_at, put_seen, no_seen, seen_added, seen_replaced, seen_removed}
 use Rattle.object_heap.specs.Stands.{HeapView}
-use Rattle.object_heap.specs.Origins.{same_origin, with_origin}
+use Rattle.object_heap.specs.Origins.{with_origin}
+use Rattle.slack_tracking.specs.Slack.{same_origin}
 use Rattle.object_heap.specs.Retains.{HasAllOf, KeepsAll, Retains}
 
 retained : (old new : HeapView) → HasAllOf old new → Retains old new

@@ -1,10 +1,12 @@
 -- The origins of a heap: for each number what makes its objects, what that is in a script, and how many fields its objects begin with.
-use Rattle.std.specs.Prelude.{ℕ, suc, ◌+◌, min, max, Bool, true, false, ◌&&◌, if◌then◌else◌, Option, Some, None, List, [], ◌∷◌, nat_eq, slice_get, slice_index_or}
+use Rattle.std.specs.Prelude.{ℕ, suc, ◌+◌, min, max, Bool, true, false, ◌&&◌, if◌then◌else◌}
+use Rattle.std.specs.Prelude.{Option, Some, None, List, [], ◌∷◌, nat_eq, slice_get, slice_index_or}
 use Rattle.map_store.specs.declared.OriginId.{OriginId}
 use Rattle.es_source.specs.Places.{same_place}
 use Rattle.es_source.specs.declared.place.Place.{Place}
 use Rattle.slack_tracking.specs.declared.OriginKind.{OriginKind}
 use Rattle.slack_tracking.specs.declared.OriginKind.TheVariants as origin
+use Rattle.slack_tracking.specs.Slack.{same_origin}
 use Rattle.es_tree.specs.declared.facts.FunctionFacts.{FunctionFacts}
 use Rattle.es_tree.specs.declared.facts.LiteralFacts.{LiteralFacts}
 use Rattle.es_tree.specs.Tree.{Tree}
@@ -12,17 +14,6 @@ use Rattle.es_model.specs.Events.{Origin, OfPlain, OfFunction, OfArray, OfArgume
 use Rattle.es_model.specs.World.{World}
 use Rattle.es_model.specs.Changes.{Constructing, changed}
 use Rattle.object_heap.specs.Stands.{HeapView}
-
-abbrev pub same_origin : OriginKind → OriginKind → Bool
-same_origin origin.Plain origin.Plain = true
-same_origin origin.Function origin.Function = true
-same_origin origin.Array origin.Array = true
-same_origin origin.Arguments origin.Arguments = true
-same_origin origin.Wrapper origin.Wrapper = true
-same_origin origin.Error origin.Error = true
-same_origin (origin.Literal a) (origin.Literal b) = same_place a b
-same_origin (origin.Constructor a) (origin.Constructor b) = same_place a b
-same_origin a b = false
 
 -- ---- numbers
 

@@ -1,7 +1,7 @@
 //! The origins of objects, with their numbers.
 
 ghost use Rattle.std.specs.Prelude.{◌≡◌, [], IfOk, OnErr, OnOk};
-ghost use Rattle.object_heap.specs.Origins.{constructor_places, literal_places, origin_place, same_origin, with_origin};
+ghost use Rattle.object_heap.specs.Origins.{constructor_places, literal_places, origin_place, with_origin};
 
 use map_store::OriginId;
 use property_keys::NoMemory;
@@ -58,26 +58,10 @@ fn place_of(kinds: &[OriginKind], kind: OriginKind) -> usize
     ensures { result ≡ origin_place kinds.now kind }
 {
     let mut place = 0;
-    while place < kinds.len() && !is_same_origin(kinds[place], kind) {
+    while place < kinds.len() && !kinds[place].is_same(kind) {
         place += 1;
     }
     place
-}
-
-fn is_same_origin(a: OriginKind, b: OriginKind) -> bool
-    ensures { result ≡ same_origin a b }
-{
-    match (a, b) {
-        (OriginKind::Plain, OriginKind::Plain)
-        | (OriginKind::Function, OriginKind::Function)
-        | (OriginKind::Array, OriginKind::Array)
-        | (OriginKind::Arguments, OriginKind::Arguments)
-        | (OriginKind::Wrapper, OriginKind::Wrapper)
-        | (OriginKind::Error, OriginKind::Error) => true,
-        (OriginKind::Literal(a), OriginKind::Literal(b)) => a.is_same(b),
-        (OriginKind::Constructor(a), OriginKind::Constructor(b)) => a.is_same(b),
-        _ => false,
-    }
 }
 
 /// How many fields lie in an object of a literal that has so many property definitions: at least 4, at most 32.

@@ -1,3 +1,5 @@
+//! What is read off the texts and the kinds of objects of a heap.
+
 ghost use Rattle.std.specs.Prelude.{◌≡◌, ◌≤◌, length, IfOk, OnErr, OnOk};
 ghost use Rattle.std.specs.Result.{result_ok};
 ghost use Rattle.property_keys.specs.Keys.{key_of};

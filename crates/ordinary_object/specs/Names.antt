@@ -2,7 +2,8 @@
 use Rattle.std.specs.Prelude.{List, [], ◌∷◌}
 use Rattle.es_model.specs.Belongs.{FrameName, NamesObject, NamesValue, NamesKey}
 use Rattle.ordinary_object.specs.declared.frame.OrdinaryFrame.{OrdinaryFrame}
-use Rattle.ordinary_object.specs.declared.frame.OrdinaryFrame.TheVariants.{ParentHas, ParentGet, GetterCalled, ParentSet, ReceiverHad, ReceiverDefined, SetterCalled}
+use Rattle.ordinary_object.specs.declared.frame.OrdinaryFrame.TheVariants.{ParentHas, ParentGet, GetterCalled, ParentSet}
+use Rattle.ordinary_object.specs.declared.frame.OrdinaryFrame.TheVariants.{ReceiverHad, ReceiverDefined, SetterCalled}
 
 abbrev pub names_of : OrdinaryFrame → List FrameName
 names_of ParentHas = []

@@ -9,7 +9,8 @@ use Rattle.descriptors.specs.declared.fields.Descriptor.{Descriptor}
 use Rattle.descriptors.specs.declared.property.Complete.{Complete}
 use Rattle.descriptors.specs.declared.property.Complete.TheVariants.{Stored, Accessor}
 use Rattle.es_model.specs.declared.requests.Request.{Request}
-use Rattle.es_model.specs.declared.requests.Request.TheVariants.{GetOwn, Define, Has, Read, Write, Delete, Keys, Proto, SetProto, Extensible, Prevent, Call, Construct, Work, Print}
+use Rattle.es_model.specs.declared.requests.Request.TheVariants.{GetOwn, Define, Has, Read, Write, Delete, Keys, Proto}
+use Rattle.es_model.specs.declared.requests.Request.TheVariants.{SetProto, Extensible, Prevent, Call, Construct, Work, Print}
 use Rattle.es_model.specs.Completions.{Completion, Normal}
 use Rattle.es_model.specs.declared.answers.Reply.TheVariants as reply
 use Rattle.es_model.specs.declared.intrinsics.Class.TheVariants as class

@@ -3,7 +3,8 @@ use Rattle.es_model.specs.Completions.{Completion}
 use Rattle.es_model.specs.Program.{Program, done}
 use Rattle.ordinary_object.specs.Ordinary.{set_had, set_called}
 use Rattle.ordinary_object.specs.declared.frame.OrdinaryFrame.{OrdinaryFrame}
-use Rattle.ordinary_object.specs.declared.frame.OrdinaryFrame.TheVariants.{ParentHas, ParentGet, GetterCalled, ParentSet, ReceiverHad, ReceiverDefined, SetterCalled}
+use Rattle.ordinary_object.specs.declared.frame.OrdinaryFrame.TheVariants.{ParentHas, ParentGet, GetterCalled, ParentSet}
+use Rattle.ordinary_object.specs.declared.frame.OrdinaryFrame.TheVariants.{ReceiverHad, ReceiverDefined, SetterCalled}
 
 abbrev pub program_after : OrdinaryFrame → Completion → Program
 program_after ParentHas c = done c

@@ -57,7 +57,8 @@ field_value (Some v) = v
 -- A descriptor that is not read to its end may be of both kinds, so its fields are named one by one
 abbrev pub names_of_reading : Reading → List FrameName
 names_of_reading f =
-    NamesObject f.object ∷ NamesValue (field_value f.descriptor.value) ∷ NamesValue (field_value f.descriptor.get) ∷ NamesValue (field_value f.descriptor.set) ∷ []
+    NamesObject f.object ∷ NamesValue (field_value f.descriptor.value) ∷ NamesValue (field_value f.descriptor.get)
+    ∷ NamesValue (field_value f.descriptor.set) ∷ []
 
 abbrev pub names_of_wanted : WantedFrame → List FrameName
 names_of_wanted (FieldHad f) = names_of_reading f

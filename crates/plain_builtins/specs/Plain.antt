@@ -9,7 +9,8 @@ use Rattle.es_model.specs.declared.kinds.ObjectKind.TheVariants as kind_of
 use Rattle.es_model.specs.declared.requests.Operation.{Operation}
 use Rattle.es_model.specs.declared.requests.Operation.TheVariants as operation
 use Rattle.es_model.specs.declared.requests.Request.{Request}
-use Rattle.es_model.specs.declared.requests.Request.TheVariants.{GetOwn, Define, Has, Read, Write, Delete, Keys, Proto, SetProto, Extensible, Prevent, Call, Construct, Work, Print}
+use Rattle.es_model.specs.declared.requests.Request.TheVariants.{GetOwn, Define, Has, Read, Write, Delete, Keys, Proto}
+use Rattle.es_model.specs.declared.requests.Request.TheVariants.{SetProto, Extensible, Prevent, Call, Construct, Work, Print}
 use Rattle.es_model.specs.StartObjects.{start_number}
 use Rattle.es_model.specs.World.{Lists, kind}
 use Rattle.es_model.specs.Program.{Program, look}

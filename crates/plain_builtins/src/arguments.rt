@@ -1,3 +1,5 @@
+//! The arguments that an operation still has to take.
+
 ghost use Rattle.std.specs.Prelude.{◌≡◌, IfOk};
 ghost use Rattle.plain_builtins.specs.Counting.{before_taking};
 

@@ -1,5 +1,6 @@
 -- The number of a text: StringToNumber (ECMA-262, 7.1.4.1.1), cut to the whole numbers.
-use Rattle.std.specs.Prelude.{ℕ, ℤ, pos, neg_ℤ, Bool, List, Option, Some, None, length, drop, slice_index, option_map, nat_lt, nat_le, ◌==◌, ◌||◌, ◌&&◌, if◌then◌else◌}
+use Rattle.std.specs.Prelude.{ℕ, ℤ, pos, neg_ℤ, Bool, List, Option, Some, None, length, drop}
+use Rattle.std.specs.Prelude.{slice_index, option_map, nat_lt, nat_le, ◌==◌, ◌||◌, ◌&&◌, if◌then◌else◌}
 use Rattle.std.specs.List.{list_all}
 use Rattle.std.specs.Char.{is_digit}
 use Rattle.std.specs.Str.Parse.{digits_value, without_leading_plus}

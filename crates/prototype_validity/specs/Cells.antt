@@ -1,5 +1,6 @@
 -- Validity cells: a cell's number is its place in their list.
-use Rattle.std.specs.Prelude.{◌≡◌, ◌≢◌, ◌<◌, ◌⊎◌, ◌++◌, ◌∷◌, [], ℕ, Bool, true, false, List, Result, Ok, Err, length, map, nat_eq, slice_index_or, if◌then◌else◌}
+use Rattle.std.specs.Prelude.{◌≡◌, ◌≢◌, ◌<◌, ◌⊎◌, ◌++◌, ◌∷◌, [], ℕ, Bool, true, false, List}
+use Rattle.std.specs.Prelude.{Result, Ok, Err, length, map, nat_eq, slice_index_or, if◌then◌else◌}
 use Rattle.std.specs.List.{list_any}
 use Rattle.prototype_validity.specs.declared.cell.Cell.{Cell}
 use Rattle.prototype_validity.specs.declared.cell.CellId.{CellId}

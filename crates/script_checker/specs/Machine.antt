@@ -14,7 +14,8 @@ use Rattle.script_checker.specs.declared.tasks.Task.TheVariants as task
 use Rattle.script_checker.specs.declared.made_parts.MadePart.TheVariants as made_part
 use Rattle.script_checker.specs.declared.made_parts.MadeParts.{MadeParts}
 use Rattle.script_checker.specs.declared.made_parts.MadeParts.TheVariants as made_parts
-use Rattle.script_checker.specs.Made.{Made, PartWithMade, Around, around, made, place_of, in_wrap, in_pair, before_pair, in_triple, before_triple, after_triple, in_for, wrap_made, pair_made, triple_made, for_made}
+use Rattle.script_checker.specs.Made.{Made, PartWithMade, Around, around, made, place_of, in_wrap, in_pair, before_pair}
+use Rattle.script_checker.specs.Made.{in_triple, before_triple, after_triple, in_for, wrap_made, pair_made, triple_made, for_made}
 use Rattle.script_checker.specs.Firsts.{wrap_first, pair_first, triple_first, for_first}
 
 -- what is done next

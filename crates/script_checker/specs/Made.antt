@@ -58,7 +58,8 @@ use Rattle.script_checker.specs.declared.made_parts.MadePart.TheVariants as made
 use Rattle.script_checker.specs.declared.made_parts.MadeParts.{MadeParts}
 use Rattle.script_checker.specs.declared.made_parts.MadeParts.TheVariants as made_parts
 use Rattle.script_checker.specs.Own.{names_arguments, this_names, is_strict}
-use Rattle.script_checker.specs.Values.{node_of, target_of, key_of, block_of, optional_block, optional_catch, item_of, parts_of, front_of, nodes_in, elements_in, binds_in, properties_in, functions_in}
+use Rattle.script_checker.specs.Values.{node_of, target_of, key_of, block_of, optional_block, optional_catch, item_of}
+use Rattle.script_checker.specs.Values.{parts_of, front_of, nodes_in, elements_in, binds_in, properties_in, functions_in}
 
 -- What was made of the parts of a script so far.
 pub record Made : Type 0 where

@@ -1,5 +1,6 @@
 -- The scripts that run: the item `let N = {}`, and then items `N.K = W` and `print(N.K)`, at most 500 in all. An empty script runs too.
-use Rattle.std.specs.Prelude.{◌&&◌, ◌||◌, [], ◌∷◌, ℕ, ℤ, pos, negsuc, suc, Bool, true, false, List, Option, Some, None, codes, nat_le, nat_lt, nat_eq, drop, is_some, slice_get, if◌then◌else◌}
+use Rattle.std.specs.Prelude.{◌&&◌, ◌||◌, [], ◌∷◌, ℕ, ℤ, pos, negsuc, suc, Bool, true, false, List, Option, Some}
+use Rattle.std.specs.Prelude.{None, codes, nat_le, nat_lt, nat_eq, drop, is_some, slice_get, if◌then◌else◌}
 use Rattle.std.specs.Str.{bytes_eq}
 use Rattle.property_keys.specs.Wholes.{most_whole}
 use Rattle.es_tree.specs.declared.body.DeclaredFunction.{DeclaredFunction}

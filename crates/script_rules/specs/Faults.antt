@@ -1,5 +1,6 @@
 -- The static rules of a script, as pairs of place and code, and the least of them.
-use Rattle.std.specs.Prelude.{ℕ, Bool, true, false, ◌&&◌, ◌||◌, not, List, [], ◌∷◌, ◌++◌, flat_map, drop, codes, bytes_eq, nat_lt, nat_eq, Option, Some, None, if◌then◌else◌, slice_get}
+use Rattle.std.specs.Prelude.{ℕ, Bool, true, false, ◌&&◌, ◌||◌, not, List, [], ◌∷◌, ◌++◌, flat_map, drop}
+use Rattle.std.specs.Prelude.{codes, bytes_eq, nat_lt, nat_eq, Option, Some, None, if◌then◌else◌, slice_get}
 use Rattle.std.specs.List.{list_any}
 use Rattle.es_tree.specs.declared.expressions.UnaryOperator.{UnaryOperator}
 use Rattle.es_tree.specs.declared.expressions.UnaryOperator.TheVariants as unary_operator

@@ -19,7 +19,8 @@ use Rattle.script_rules.specs.Arena.{tree_at, IsPart}
 use Rattle.script_rules.specs.Chains.{chain_at}
 use Rattle.script_rules.specs.Scopes.{function_scope}
 use Rattle.script_rules.specs.Names.{declared_in, parameters_in}
-use Rattle.script_rules.specs.Faults.{Around, faults, binding_faults, catch_names, delete_faults, duplicates, function_around, own_units, return_faults, second_prototypes, setter_names, target_faults}
+use Rattle.script_rules.specs.Faults.{Around, faults, binding_faults, catch_names, delete_faults, duplicates, function_around}
+use Rattle.script_rules.specs.Faults.{own_units, return_faults, second_prototypes, setter_names, target_faults}
 use Rattle.script_rules.specs.Walks.{Visits, size_at}
 
 abbrev pub around_in : List (List Scope) → ScopeId → Bool → Around

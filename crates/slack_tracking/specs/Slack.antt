@@ -1,21 +1,22 @@
 -- The origins of objects: for each number what makes its objects, and its slack.
-use Rattle.std.specs.Prelude.{ℕ, suc, ◌+◌, ◌<◌, Bool, true, false, ◌&&◌, if◌then◌else◌, List, [], ◌∷◌, length, nat_eq, nat_lt, min, max, slice_index_or, slice_set}
+use Rattle.std.specs.Prelude.{ℕ, suc, ◌+◌, ◌<◌, Bool, true, false, ◌&&◌, if◌then◌else◌, List, []}
+use Rattle.std.specs.Prelude.{◌∷◌, length, nat_eq, nat_lt, min, max, slice_index_or, slice_set}
 use Rattle.map_store.specs.declared.OriginId.{OriginId}
 use Rattle.es_source.specs.Places.{same_place}
 use Rattle.slack_tracking.specs.declared.OriginKind.{OriginKind}
 use Rattle.slack_tracking.specs.declared.OriginKind.TheVariants as origin
 use Rattle.slack_tracking.specs.declared.origins.Slack.{Slack}
 
-abbrev pub same_kind : OriginKind → OriginKind → Bool
-same_kind origin.Plain origin.Plain = true
-same_kind origin.Function origin.Function = true
-same_kind origin.Array origin.Array = true
-same_kind origin.Arguments origin.Arguments = true
-same_kind origin.Wrapper origin.Wrapper = true
-same_kind origin.Error origin.Error = true
-same_kind (origin.Literal a) (origin.Literal b) = same_place a b
-same_kind (origin.Constructor a) (origin.Constructor b) = same_place a b
-same_kind a b = false
+abbrev pub same_origin : OriginKind → OriginKind → Bool
+same_origin origin.Plain origin.Plain = true
+same_origin origin.Function origin.Function = true
+same_origin origin.Array origin.Array = true
+same_origin origin.Arguments origin.Arguments = true
+same_origin origin.Wrapper origin.Wrapper = true
+same_origin origin.Error origin.Error = true
+same_origin (origin.Literal a) (origin.Literal b) = same_place a b
+same_origin (origin.Constructor a) (origin.Constructor b) = same_place a b
+same_origin a b = false
 
 -- ---- numbers
 
@@ -32,12 +33,12 @@ origin_at os id = slice_index_or os id.0 (begun origin.Plain 0)
 -- the number of the origin of a kind, or how many origins there are where it is not there
 abbrev pub origin_place : List Slack → OriginKind → ℕ
 origin_place [] kind = 0
-origin_place (o ∷ os) kind = if same_kind o.kind kind then 0 else suc (origin_place os kind)
+origin_place (o ∷ os) kind = if same_origin o.kind kind then 0 else suc (origin_place os kind)
 
 -- the origins once there is one of a kind: a new one stands last, and one that is there stays as it is
 abbrev pub with_origin : List Slack → OriginKind → ℕ → List Slack
 with_origin [] kind places = begun kind places ∷ []
-with_origin (o ∷ os) kind places = if same_kind o.kind kind then o ∷ os else o ∷ with_origin os kind places
+with_origin (o ∷ os) kind places = if same_origin o.kind kind then o ∷ os else o ∷ with_origin os kind places
 
 -- ---- slack
 

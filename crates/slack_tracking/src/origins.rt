@@ -1,7 +1,7 @@
 //! Origins with their places.
 
 ghost use Rattle.std.specs.Prelude.{◌≡◌, ◌↔◌, ◌<◌, [], length, IfOk, OnErr, OnOk, IsTrue};
-ghost use Rattle.slack_tracking.specs.Slack.{IsKnown, origin_at, origin_place, with_origin, with_fields, with_construction, falls, same_kind};
+ghost use Rattle.slack_tracking.specs.Slack.{IsKnown, origin_at, origin_place, with_origin, with_fields, with_construction, falls};
 
 use crate::OriginKind;
 use map_store::OriginId;
@@ -124,24 +124,8 @@ fn place_of(origins: &[Slack], kind: OriginKind) -> usize
     ensures { result ≡ origin_place origins.now kind }
 {
     let mut place = 0;
-    while place < origins.len() && !is_same_kind(origins[place].kind, kind) {
+    while place < origins.len() && !origins[place].kind.is_same(kind) {
         place += 1;
     }
     place
-}
-
-fn is_same_kind(a: OriginKind, b: OriginKind) -> bool
-    ensures { result ≡ same_kind a b }
-{
-    match (a, b) {
-        (OriginKind::Plain, OriginKind::Plain)
-        | (OriginKind::Function, OriginKind::Function)
-        | (OriginKind::Array, OriginKind::Array)
-        | (OriginKind::Arguments, OriginKind::Arguments)
-        | (OriginKind::Wrapper, OriginKind::Wrapper)
-        | (OriginKind::Error, OriginKind::Error) => true,
-        (OriginKind::Literal(a), OriginKind::Literal(b)) => a.is_same(b),
-        (OriginKind::Constructor(a), OriginKind::Constructor(b)) => a.is_same(b),
-        _ => false,
-    }
 }

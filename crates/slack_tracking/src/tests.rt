@@ -17,14 +17,14 @@ enum Call {
 use Call::{Begin, Constructed, Places, Used};
 
 #[derive(Clone, Copy, Debug, PartialEq, Eq)]
-enum Answer {
+enum Given {
     Done,
     Number(u32),
     Fell(bool),
     Unknown,
 }
 
-use Answer::{Done, Fell, Number};
+use Given::{Done, Fell, Number};
 
 const LITERAL: OriginKind = OriginKind::Literal(Place { line: 3, column: 9 });
 
@@ -33,7 +33,7 @@ const BELOW: OriginKind = OriginKind::Literal(Place { line: 4, column: 9 });
 const CONSTRUCTOR: OriginKind = OriginKind::Constructor(Place { line: 3, column: 9 });
 
 /// Origin 0 uses two of its four places, origin 1 more than its six, and origin 3 all of its one.
-const ROWS: [(Call, Answer); 43] = [
+const ROWS: [(Call, Given); 43] = [
     (Begin(OriginKind::Plain, 4), Number(0)),
     (Begin(LITERAL, 6), Number(1)),
     (Begin(BELOW, 5), Number(2)),
@@ -79,7 +79,7 @@ const ROWS: [(Call, Answer); 43] = [
     (Places(2), Number(0)),
 ];
 
-fn answer_of(origins: &mut Origins, call: Call) -> Result<Answer, NoMemory> {
+fn answer_of(origins: &mut Origins, call: Call) -> Result<Given, NoMemory> {
     match call {
         Begin(kind, places) => Ok(Number(origins.begin(kind, places)?.0)),
         Used(origin, fields) if (origin as usize) < origins.len() => {
@@ -92,7 +92,7 @@ fn answer_of(origins: &mut Origins, call: Call) -> Result<Answer, NoMemory> {
         Places(origin) if (origin as usize) < origins.len() => {
             Ok(Number(origins.places(OriginId(origin))))
         }
-        _ => Ok(Answer::Unknown),
+        _ => Ok(Given::Unknown),
     }
 }
 

@@ -1,5 +1,5 @@
--- Worked examples of the abstract operations: what each comes to over a small world, where methods answer as a table says. Worked out by hand from the numbered steps of
--- ECMA-262, 15th edition.
+-- Worked examples of the abstract operations: what each comes to over a small world, where methods answer as a table says. Worked out by hand from the numbered
+-- steps of ECMA-262, 15th edition.
 use Rattle.std.specs.Prelude.{◌≡◌, ℕ, Bool, true, false, if◌then◌else◌, nat_eq, Option, Some, None, List, [], ◌∷◌, pos, negsuc, codes, length, slice_index_or}
 use Rattle.property_keys.specs.declared.identifiers.ObjectId.{ObjectId}
 use Rattle.property_keys.specs.declared.keys.PropKey.{PropKey}
@@ -34,8 +34,8 @@ use Rattle.small_worlds.specs.SmallWorlds.{a_function, at, gives, object, plain,
 abbrev pub words : List (List ℕ)
 words =
     codes "valueOf" ∷ codes "toString" ∷ codes "string" ∷ codes "number" ∷ codes "default" ∷ codes "undefined" ∷ codes "null" ∷ codes "true" ∷ codes "-5"
-    ∷ codes "  -0x1 " ∷ codes "0B101" ∷ codes "+7" ∷ codes "007" ∷ [] ∷ codes "9007199254740992" ∷ codes "1" ∷ codes "x" ∷ codes "ab" ∷ codes "ac" ∷ codes "length"
-    ∷ codes "4294967294" ∷ codes "prototype" ∷ codes "enumerable" ∷ codes "configurable" ∷ codes "value" ∷ codes "writable" ∷ codes "get" ∷ codes "set" ∷ []
+    ∷ codes "  -0x1 " ∷ codes "0B101" ∷ codes "+7" ∷ codes "007" ∷ [] ∷ codes "9007199254740992" ∷ codes "1" ∷ codes "x" ∷ codes "ab" ∷ codes "ac"
+    ∷ codes "length" ∷ codes "4294967294" ∷ codes "prototype" ∷ codes "enumerable" ∷ codes "configurable" ∷ codes "value" ∷ codes "writable" ∷ codes "get" ∷ codes "set" ∷ []
 
 -- the text at a place of the table
 abbrev pub word : ℕ → Value
@@ -315,7 +315,8 @@ abbrev pub NumbersInOrder : Type 0
 NumbersInOrder = seen (outcome silent mute operation.LessThan (value.Whole (negsuc 4) ∷ word 15 ∷ value.Bool false ∷ [])) ≡ (says true, 10, 0)
 
 abbrev pub NoNumberIsLess : Type 0
-NoNumberIsLess = thrown (outcome silent mute operation.LessThan (value.Undefined ∷ whole 1 ∷ value.Bool true ∷ [])) ≡ range_error (codes "number outside the profile")
+NoNumberIsLess =
+    thrown (outcome silent mute operation.LessThan (value.Undefined ∷ whole 1 ∷ value.Bool true ∷ [])) ≡ range_error (codes "number outside the profile")
 
 -- who converts an object throws it: so what is thrown is what was converted first
 abbrev pub throws_operand : Server
@@ -426,7 +427,8 @@ shortened (Sym s) = gives value.Undefined
 shortened (Name t) = gives (whole 3)
 
 abbrev pub ListKeepsLength : Type 0
-ListKeepsLength = seen (outcome shortened mute operation.ListFromArrayLike (object 0 ∷ [])) ≡ (Normal (reply.List (whole 8 ∷ value.Undefined ∷ value.Undefined ∷ [])), 7, 4)
+ListKeepsLength =
+    seen (outcome shortened mute operation.ListFromArrayLike (object 0 ∷ [])) ≡ (Normal (reply.List (whole 8 ∷ value.Undefined ∷ value.Undefined ∷ [])), 7, 4)
 
 -- for two elements there are turns for one
 abbrev pub ListHalts : Type 0
@@ -459,4 +461,5 @@ abbrev pub WrapsNumber : Type 0
 WrapsNumber = seen (run (server silent mute) (to_object (whole 7) (λ o. done (gives (value.Object o)))) 0 (room 10)) ≡ (gives (object 6), 10, 0)
 
 abbrev pub UndefinedIsNoObject : Type 0
-UndefinedIsNoObject = thrown (run (server silent mute) (to_object value.Undefined (λ o. done (gives (value.Object o)))) 0 (room 10)) ≡ type_error (codes "not an object")
+UndefinedIsNoObject =
+    thrown (run (server silent mute) (to_object value.Undefined (λ o. done (gives (value.Object o)))) 0 (room 10)) ≡ type_error (codes "not an object")

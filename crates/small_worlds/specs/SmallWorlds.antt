@@ -16,7 +16,8 @@ use Rattle.es_model.specs.declared.requests.Request.TheVariants.{Define, Has, Re
 use Rattle.es_model.specs.Completions.{Completion, Normal, Throw}
 use Rattle.es_model.specs.declared.answers.Reply.TheVariants as reply
 use Rattle.es_tree.specs.declared.numbers.SiteId.{SiteId}
-use Rattle.es_model.specs.Events.{Event, OfError, Made, MadePrototype, Added, Stored, Redefined, GivenFunctions, Deleted, ProtoSet, Closed, IndexPut, IndexRemoved, Accessed, Walk, AtProperty, AtNull, Reads, Writes, IsSmall, IsOther, OfValue, OfFunctions}
+use Rattle.es_model.specs.Events.{Event, OfError, Made, MadePrototype, Added, Stored, Redefined, GivenFunctions, Deleted, ProtoSet, Closed}
+use Rattle.es_model.specs.Events.{IndexPut, IndexRemoved, Accessed, Walk, AtProperty, AtNull, Reads, Writes, IsSmall, IsOther, OfValue, OfFunctions}
 use Rattle.es_tree.specs.Tree.{empty_tree}
 use Rattle.es_model.specs.Objects.{Object, is_proxy}
 use Rattle.es_model.specs.World.{World}

@@ -13,7 +13,7 @@ use Rattle.transition_tree.specs.declared.table.Table.{Table}
 use Rattle.transition_tree.specs.Edges.{edge_of, root_edge}
 use Rattle.transition_tree.specs.Paths.{HasPairWhereDue}
 use Rattle.transition_tree.specs.Rows.{IsAsBefore, IsIn, KeepsAt, KeepsKept, TreeView, after, kept_at, root_row, row_of}
-use Rattle.transition_tree.specs.Tables.{GetsPlace, IsSound, LeadsOn, row_by, rows_of, slot_at, tree_view}
+use Rattle.transition_tree.specs.Tables.{GetsPlace, IsSoundTable, LeadsOn, row_by, rows_of, slot_at, tree_view}
 use Rattle.transition_tree.proofs.Methods.{keeps-ready, keeps-ready-same, maps-more, ready-before, row-by-root, row-by-step, sound-child, sound-root}
 use Rattle.transition_tree.proofs.TreeViews.{IsReady, length-standings, ready}
 
@@ -26,12 +26,12 @@ abbrev parts : Table → Parts
 parts t = record { places = t.places; slots = t.slots.items; made = t.made.items }
 
 abbrev IsSoundParts : Parts → Type 0
-IsSoundParts p = IsSound p.places p.slots p.made
+IsSoundParts p = IsSoundTable p.places p.slots p.made
 
 abbrev view : Parts → TreeView
 view p = tree_view p.places p.slots p.made
 
-module _ (old roomed placed : Table) (t : TreeView) (sound : IsSound old.places old.slots.items old.made.items) (is : tree_view old.places old.slots.items old.made.items ≡ t)
+module _ (old roomed placed : Table) (t : TreeView) (sound : IsSoundTable old.places old.slots.items old.made.items) (is : tree_view old.places old.slots.items old.made.items ≡ t)
     (same_places : roomed.places ≡ old.places) (same_slots : roomed.slots ≡ old.slots) (same_made : roomed.made.items ≡ old.made.items)
     (e : Edge) (n : ℕ) (leads : LeadsOn e (length old.places)) (gets : GetsPlace roomed.places roomed.slots.items placed.places placed.slots.items e n) (made_stays : placed.made ≡ roomed.made) where
   base : parts roomed ≡ parts old
@@ -43,8 +43,8 @@ module _ (old roomed placed : Table) (t : TreeView) (sound : IsSound old.places 
   placed-made : placed.made.items ≡ old.made.items
   placed-made = ap (λ (v : Vec Made). v.items) made_stays ∙ same_made
 
-  pub placed-sound : IsSound placed.places placed.slots.items placed.made.items
-  placed-sound = subst (λ (m : List Made). IsSound placed.places placed.slots.items m) (sym placed-made) is-ready.sound
+  pub placed-sound : IsSoundTable placed.places placed.slots.items placed.made.items
+  placed-sound = subst (λ (m : List Made). IsSoundTable placed.places placed.slots.items m) (sym placed-made) is-ready.sound
 
   pub placed-before : IsAsBefore t (tree_view placed.places placed.slots.items placed.made.items)
   placed-before =
@@ -69,7 +69,7 @@ module _ (old roomed placed : Table) (t : TreeView) (sound : IsSound old.places 
     root-parts : parts entered ≡ record { places = placed.places; slots = set placed.slots.items n s; made = old.made.items ++ record { place = n; parent = None } ∷ [] }
     root-parts = entered-are entered s (record { place = n; parent = None }) places_are slots_are made_are
 
-    pub root-sound : (root : MapId) → root.0 ≡ length t.maps → s.latest ≡ Some root → length old.made.items + 1 < 2 ^ 32 → IsSound entered.places entered.slots.items entered.made.items
+    pub root-sound : (root : MapId) → root.0 ≡ length t.maps → s.latest ≡ Some root → length old.made.items + 1 < 2 ^ 32 → IsSoundTable entered.places entered.slots.items entered.made.items
     root-sound root number latest few =
         subst (λ (q : Parts). IsSoundParts q) (sym root-parts)
         (sound-root old.places old.slots.items old.made.items e n t placed.places placed.slots.items is is-ready o p h s root latest (count root.0 number) kept few)
@@ -91,7 +91,7 @@ module _ (old roomed placed : Table) (t : TreeView) (sound : IsSound old.places 
     child-parts : parts entered ≡ record { places = placed.places; slots = set placed.slots.items n s; made = old.made.items ++ record { place = n; parent = Some m } ∷ [] }
     child-parts = entered-are entered s (record { place = n; parent = Some m }) places_are slots_are made_are
 
-    pub child-sound : (child : MapId) → child.0 ≡ length t.maps → s.latest ≡ Some child → HasPairWhereDue by s.kept → length old.made.items + 1 < 2 ^ 32 → IsSound entered.places entered.slots.items entered.made.items
+    pub child-sound : (child : MapId) → child.0 ≡ length t.maps → s.latest ≡ Some child → HasPairWhereDue by s.kept → length old.made.items + 1 < 2 ^ 32 → IsSoundTable entered.places entered.slots.items entered.made.items
     child-sound child number latest pair few =
         subst (λ (q : Parts). IsSoundParts q) (sym child-parts)
         (sound-child old.places old.slots.items old.made.items e n t placed.places placed.slots.items is is-ready m known x read by h s child latest (count child.0 number) pair few)

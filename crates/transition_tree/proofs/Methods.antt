@@ -14,13 +14,13 @@ use Rattle.transition_tree.specs.declared.table.Slot.{Slot}
 use Rattle.transition_tree.specs.Edges.{HasNoPlace, by_accessor, edge_at, edge_of, root_edge, step_before}
 use Rattle.transition_tree.specs.Paths.{HasPairWhereDue, is_accessor_step}
 use Rattle.transition_tree.specs.Rows.{HadMap, IsAsBefore, IsIn, KeepsAt, KeepsKept, Row, Standing, TreeView, after, kept_at, root_row, row_of}
-use Rattle.transition_tree.specs.Tables.{GetsPlace, IsSlotOf, IsSound, LeadsOn, kept_list, made_at, no_made, no_slot, row_at, row_by, rows_of, slot_at, standing_of, tree_view}
+use Rattle.transition_tree.specs.Tables.{GetsPlace, IsSlotOf, IsSoundTable, LeadsOn, kept_list, made_at, no_made, no_slot, row_at, row_by, rows_of, slot_at, standing_of, tree_view}
 use Rattle.transition_tree.specs.Together.{HasLast, LacksMap}
 use Rattle.transition_tree.proofs.RowsOfPlaces.{accessor-edge, accessor-root, before-edge, before-root, leads-edge, leads-root, row-found, row_by-edge, row_by-root}
 use Rattle.transition_tree.proofs.SoundTables.{sound-entered, sound-kept}
 use Rattle.transition_tree.proofs.TreeViews.{IsReady, keeps-at, keeps-same, kept-by, kept-none, last-at, last-by, last-none, length-standings, pair-due, pair-only, ready, row-is}
 
-module _ (es : List Edge) (slots : List Slot) (made : List Made) (sound : IsSound es slots made) (t : TreeView) (is : tree_view es slots made ≡ t) where
+module _ (es : List Edge) (slots : List Slot) (made : List Made) (sound : IsSoundTable es slots made) (t : TreeView) (is : tree_view es slots made ≡ t) where
   abbrev rows : List Row
   rows = rows_of es
 
@@ -145,11 +145,11 @@ module _ (es : List Edge) (slots : List Slot) (made : List Made) (e : Edge) (n :
     due-here : (rep : Representation) → HasPairWhereDue by rep → by_accessor (edge_at es' n) ≡ true → rep ≡ representation.Pair
     due-here rep pair a = pair.1 (sym (accessor-edge x.place by) ∙ ap by_accessor (sym h) ∙ ap by_accessor (sym r.found.here) ∙ a)
 
-    pub sound-keep : (s : Slot) → s.latest ≡ (slot_at slots' n).latest → HasPairWhereDue by s.kept → IsSound es' (set slots' n s) made
+    pub sound-keep : (s : Slot) → s.latest ≡ (slot_at slots' n).latest → HasPairWhereDue by s.kept → IsSoundTable es' (set slots' n s) made
     sound-keep s latest pair = sound-kept es' slots' made n s r.sound r.found.known latest (pair-only-here s.kept pair) (due-here s.kept pair)
 
     pub sound-child : (s : Slot) (child : MapId) → s.latest ≡ Some child → child.0 ≡ length made → HasPairWhereDue by s.kept → length made + 1 < 2 ^ 32
-        → IsSound es' (set slots' n s) (made ++ record { place = n; parent = Some m } ∷ [])
+        → IsSoundTable es' (set slots' n s) (made ++ record { place = n; parent = Some m } ∷ [])
     sound-child s child latest number pair few =
         sound-entered es' slots' made (record { place = n; parent = Some m }) s child r.sound r.found.known number
         (record {
@@ -172,7 +172,7 @@ module _ (es : List Edge) (slots : List Slot) (made : List Made) (e : Edge) (n :
         let wrong : false ≡ true = sym (accessor-root o p) ∙ ap by_accessor (sym h) ∙ ap by_accessor (sym r.found.here) ∙ a in cc
 
     pub sound-root : (s : Slot) (child : MapId) → s.latest ≡ Some child → child.0 ≡ length made → s.kept ≡ (slot_at slots' n).kept → length made + 1 < 2 ^ 32
-        → IsSound es' (set slots' n s) (made ++ record { place = n; parent = None } ∷ [])
+        → IsSoundTable es' (set slots' n s) (made ++ record { place = n; parent = None } ∷ [])
     sound-root s child latest number kept few =
         sound-entered es' slots' made (record { place = n; parent = None }) s child r.sound r.found.known number
         (ap step_before r.found.here ∙ ap step_before h ∙ before-root o p)

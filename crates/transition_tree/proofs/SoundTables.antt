@@ -9,7 +9,7 @@ use Rattle.transition_tree.specs.declared.edges.Edge.{Edge}
 use Rattle.transition_tree.specs.declared.table.Made.{Made}
 use Rattle.transition_tree.specs.declared.table.Slot.{Slot}
 use Rattle.transition_tree.specs.Edges.{HasNoPlace, HasOneEach, by_accessor, edge_at, no_edge, step_before}
-use Rattle.transition_tree.specs.Tables.{IsFree, IsLatest, IsPlaced, IsSound, LeadsFrom, LeadsOn, made_at, no_made, no_slot, slot_at}
+use Rattle.transition_tree.specs.Tables.{IsFree, IsLatest, IsPlaced, IsSoundTable, LeadsFrom, LeadsOn, made_at, no_made, no_slot, slot_at}
 use Rattle.transition_tree.proofs.RowsOfPlaces.{rows-pushed}
 
 one-pushed : (es : List Edge) (e : Edge) → HasOneEach es → HasNoPlace es e → HasOneEach (es ++ e ∷ [])
@@ -30,7 +30,7 @@ one-pushed es e one none i j a b same =
 
 -- ---- a place more
 
-module _ (es : List Edge) (slots : List Slot) (made : List Made) (e : Edge) (sound : IsSound es slots made) (none : HasNoPlace es e) (leads : LeadsOn e (length es)) where
+module _ (es : List Edge) (slots : List Slot) (made : List Made) (e : Edge) (sound : IsSoundTable es slots made) (none : HasNoPlace es e) (leads : LeadsOn e (length es)) where
   abbrev es' : List Edge
   es' = es ++ e ∷ []
 
@@ -71,7 +71,7 @@ module _ (es : List Edge) (slots : List Slot) (made : List Made) (e : Edge) (sou
             let nothing : representation.None ≡ representation.Pair = sym (ap (λ (s : Slot). s.kept) (new-slot n (omega (arith, length-append es (e ∷ []))))) ∙ pair in cc
       ]
 
-  pub sound-placed : IsSound es' slots' made
+  pub sound-placed : IsSoundTable es' slots' made
   sound-placed = record {
     paired = omega (arith, sound.paired, length-append es (e ∷ []), length-append slots (no_slot ∷ []));
     few = sound.few;
@@ -87,7 +87,7 @@ module _ (es : List Edge) (slots : List Slot) (made : List Made) (e : Edge) (sou
 
 -- ---- another representation is kept
 
-module _ (es : List Edge) (slots : List Slot) (made : List Made) (k : ℕ) (s : Slot) (sound : IsSound es slots made) (known : k < length es) where
+module _ (es : List Edge) (slots : List Slot) (made : List Made) (k : ℕ) (s : Slot) (sound : IsSoundTable es slots made) (known : k < length es) where
   within : k < length slots
   within = omega (arith, sound.paired)
 
@@ -112,7 +112,7 @@ module _ (es : List Edge) (slots : List Slot) (made : List Made) (k : ℕ) (s : 
         | inr ne ↦ ap (λ (x : Slot). x.kept) (there place ne) ∙ old accessor ne
       ]
 
-  pub sound-kept : s.latest ≡ (slot_at slots k).latest → (s.kept ≡ representation.Pair → by_accessor (edge_at es k) ≡ true) → (by_accessor (edge_at es k) ≡ true → s.kept ≡ representation.Pair) → IsSound es (set slots k s) made
+  pub sound-kept : s.latest ≡ (slot_at slots k).latest → (s.kept ≡ representation.Pair → by_accessor (edge_at es k) ≡ true) → (by_accessor (edge_at es k) ≡ true → s.kept ≡ representation.Pair) → IsSoundTable es (set slots k s) made
   sound-kept latest only due = record {
     paired = omega (arith, sound.paired, length-set slots k s);
     few = sound.few;
@@ -133,7 +133,7 @@ same-leads : (e : Edge) (made made' : List Made) (n : ℕ) → ((p : ℕ) → p 
 same-leads e made made' n same None h = h
 same-leads e made made' n same (Some p) h = record { earlier = h.earlier; by = h.by; before = h.before ∙ ap (λ (x : Made). Some (x.place, h.by)) (sym (same p.0 h.earlier)) }
 
-module _ (es : List Edge) (slots : List Slot) (made : List Made) (m : Made) (s : Slot) (map : MapId) (sound : IsSound es slots made) (known : m.place < length es) (number : map.0 ≡ length made) where
+module _ (es : List Edge) (slots : List Slot) (made : List Made) (m : Made) (s : Slot) (map : MapId) (sound : IsSoundTable es slots made) (known : m.place < length es) (number : map.0 ≡ length made) where
   abbrev made' : List Made
   made' = made ++ m ∷ []
 
@@ -208,7 +208,7 @@ module _ (es : List Edge) (slots : List Slot) (made : List Made) (m : Made) (s :
 
   pub sound-entered : MatchOption m.parent (step_before (edge_at es m.place) ≡ None) (LeadsFrom (edge_at es m.place) made (length made)) → s.latest ≡ Some map
       → (s.kept ≡ representation.Pair → by_accessor (edge_at es m.place) ≡ true) → (by_accessor (edge_at es m.place) ≡ true → s.kept ≡ representation.Pair)
-      → length made + 1 < 2 ^ 32 → IsSound es (set slots m.place s) made'
+      → length made + 1 < 2 ^ 32 → IsSoundTable es (set slots m.place s) made'
   sound-entered parent latest only due few = record {
     paired = omega (arith, sound.paired, length-set slots m.place s);
     few = omega (arith, length-append made (m ∷ []));

@@ -12,7 +12,7 @@ use Rattle.transition_tree.specs.declared.table.Slot.{Slot}
 use Rattle.transition_tree.specs.Edges.{HasNoPlace, IsPlaceOf, by_accessor, edge_at, edge_of, no_edge, step_before}
 use Rattle.transition_tree.specs.Paths.{is_accessor_step}
 use Rattle.transition_tree.specs.Rows.{HadMap, IsAsBefore, IsIn, KeepsAt, KeepsKept, Kept, Row, Standing, TreeView, after, kept_at, no_row, no_standing, parent_of, row_of, standing_at}
-use Rattle.transition_tree.specs.Tables.{FindsPlace, GetsPlace, IsFree, IsLatest, IsSlotOf, IsSound, LeadsFrom, LeadsOn, MakesPlace, kept_list, made_at, no_made, no_slot, row_at, row_by, rows_of, slot_at, standing_of, tree_view}
+use Rattle.transition_tree.specs.Tables.{FindsPlace, GetsPlace, IsFree, IsLatest, IsSlotOf, IsSoundTable, LeadsFrom, LeadsOn, MakesPlace, kept_list, made_at, no_made, no_slot, row_at, row_by, rows_of, slot_at, standing_of, tree_view}
 use Rattle.transition_tree.specs.Together.{CameBy, HasLast, IsRoot, LacksMap}
 use Rattle.transition_tree.proofs.KeptRows.{kept-absent, kept-found, kept-other, kept-pushed, kept-set}
 use Rattle.transition_tree.proofs.RowsOfPlaces.{accessor-edge, length-rows_of, not-after, path-without, row-absent, row-found, row_by-before, rows-differ, rows_of-push}
@@ -40,7 +40,7 @@ kept_list-same (x ∷ rows) (old ∷ slots) (suc n) s e = ap (λ (k : List Kept)
 -- ---- the place of an edge, found or made
 
 pub record IsReady (es : List Edge) (slots : List Slot) (made : List Made) (es' : List Edge) (slots' : List Slot) (e : Edge) (n : ℕ) : Type 0 where
-  pub sound : IsSound es' slots' made
+  pub sound : IsSoundTable es' slots' made
   pub found : IsPlaceOf es' e n
   pub same : IsAsBefore (tree_view es slots made) (tree_view es' slots' made)
   pub places : (k : ℕ) → k < length es → edge_at es' k ≡ edge_at es k
@@ -49,7 +49,7 @@ pub record IsReady (es : List Edge) (slots : List Slot) (made : List Made) (es' 
 same_view : (t : TreeView) → IsAsBefore t t
 same_view t = record { maps = refl; kept = λ row. refl }
 
-module _ (es : List Edge) (slots : List Slot) (made : List Made) (e : Edge) (n : ℕ) (sound : IsSound es slots made) (leads : LeadsOn e (length es)) where
+module _ (es : List Edge) (slots : List Slot) (made : List Made) (e : Edge) (n : ℕ) (sound : IsSoundTable es slots made) (leads : LeadsOn e (length es)) where
   ready-found : (es' : List Edge) (slots' : List Slot) → FindsPlace es slots es' slots' e n → IsReady es slots made es' slots' e n
   ready-found es' slots' f =
       subst (λ (x : List Edge). IsReady es slots made x slots' e n) (sym f.edges_are)
@@ -79,7 +79,7 @@ module _ (es : List Edge) (slots : List Slot) (made : List Made) (e : Edge) (n :
 
 -- ---- of a sound table
 
-module _ (es : List Edge) (slots : List Slot) (made : List Made) (sound : IsSound es slots made) where
+module _ (es : List Edge) (slots : List Slot) (made : List Made) (sound : IsSoundTable es slots made) where
   abbrev rows : List Row
   rows = rows_of es
 

@@ -90,7 +90,7 @@ pub record IsLatest (made : List Made) (place : ℕ) (map : MapId) : Type 0 wher
 abbrev pub IsFree : List Made → ℕ → Type 0
 IsFree made place = (n : ℕ) → n < length made → (made_at made n).place ≡ place → ⊥
 
-pub record IsSound (edges : List Edge) (slots : List Slot) (made : List Made) : Type 0 where
+pub record IsSoundTable (edges : List Edge) (slots : List Slot) (made : List Made) : Type 0 where
   pub paired : length slots ≡ length edges
   pub few : length made < 2 ^ 32
   pub one : HasOneEach edges

@@ -1,3 +1,5 @@
+//! The map that follows another by a step.
+
 ghost use Rattle.std.specs.Prelude.{◌≡◌, ◌+◌, ◌++◌, ◌∷◌, [], length, IfOk, OnErr};
 ghost use Rattle.property_keys.specs.Counts.{TakesAtMost};
 ghost use Rattle.map_store.specs.Views.{IsKnown, map_at};

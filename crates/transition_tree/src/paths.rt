@@ -1,3 +1,5 @@
+//! Steps and paths.
+
 ghost use Rattle.std.specs.Prelude.{◌≡◌, ◌<◌, ◌++◌, ◌∷◌, [], length, reverse, OnOk, OnErr, slice_index_or};
 
 use map_store::Kind;

@@ -1,3 +1,5 @@
+//! The numbers of the places that origins, prototypes and steps lead to.
+
 ghost use Rattle.std.specs.Prelude.{◌≡◌, ◌<◌, ◌↔◌, ◌++◌, ◌∷◌, [], length, IfOk, IfSome, IsNone, OnErr, OnOk};
 ghost use Rattle.transition_tree.specs.Edges.{IsPlaceOf, HasNoPlace, edge_at};
 

@@ -1,3 +1,5 @@
+//! The tree of transitions: where each map stands, and which map stands there.
+
 ghost use Rattle.std.specs.Prelude.{◌≡◌, ◌↔◌, ◌<◌, ◌+◌, [], length, true, false, IfOk, IsNone, MatchOption, OnErr, OnOk};
 ghost use Rattle.std.specs.Option.{ForSome};
 ghost use Rattle.property_keys.specs.Counts.{TakesAtMost, counted};
@@ -34,11 +36,11 @@ impl Model for Tree {
 
     ghost Value = { TreeView };
 
-    ghost use Rattle.transition_tree.specs.Tables.{tree_view, IsSound};
+    ghost use Rattle.transition_tree.specs.Tables.{tree_view, IsSoundTable};
 
     ghost view = { λ t. tree_view t.table.places t.table.slots.items t.table.made.items };
 
-    ghost invariant = { λ t. IsSound t.table.places t.table.slots.items t.table.made.items };
+    ghost invariant = { λ t. IsSoundTable t.table.places t.table.slots.items t.table.made.items };
 }
 
 impl Tree {

@@ -2,7 +2,7 @@ use Rattle.std.proofs.Common.{ℕ, List, refl, subst, sym, ◌∙◌, ap}
 use Rattle.std.specs.Prelude.{remove}
 use Rattle.indexmap.specs.IndexMap.{get}
 use Rattle.dictionary_mode.specs.Entries.{IsPlaceOf, LacksKey}
-use Rattle.dictionary_mode.specs.Places.{IsSound, in_use}
+use Rattle.dictionary_mode.specs.Places.{IsSoundDictionary, in_use}
 use Rattle.dictionary_mode.proofs.Slots.{key_eq, found, lacks_from_index, lacks_from_order, sound_removed, in_use-removed}
 use Rattle.dictionary_mode.proofs.dictionary.Dictionary.remove.Goals as goal
 
@@ -16,7 +16,7 @@ returns-then-not-contains c = (
 pub invariant_of-self : goal.invariant_of-self
 invariant_of-self c =
     let t = c.take_out.ensures.list in
-    let P : List ℕ → ℕ → Type 0 = λ o m. IsSound (λ key. get key_eq c.self.inside.index key) c.self.inside.slots.items o m in
+    let P : List ℕ → ℕ → Type 0 = λ o m. IsSoundDictionary (λ key. get key_eq c.self.inside.index key) c.self.inside.slots.items o m in
     subst (λ m. P c.take_out.new.self.list m) (sym c.take_out.ensures.room)
     (subst (λ o. P o c.self.inside.order.room) (sym t.rest) (sound_removed _ _ _ _ c.self.invariant t.place t.within))
 

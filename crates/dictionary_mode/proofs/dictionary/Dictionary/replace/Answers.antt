@@ -6,7 +6,7 @@ use Rattle.descriptors.specs.declared.property.Complete.{Complete}
 use Rattle.indexmap.specs.IndexMap.{get}
 use Rattle.dictionary_mode.proofs.Slots.{key_eq, length-in_use, sound_written, in_use-written}
 use Rattle.dictionary_mode.specs.Entries.{key_at, with_property, no_entry}
-use Rattle.dictionary_mode.specs.Places.{IsSound, in_use}
+use Rattle.dictionary_mode.specs.Places.{IsSoundDictionary, in_use}
 use Rattle.dictionary_mode.proofs.dictionary.Dictionary.replace.Goals as goal
 
 inside : (c : goal.After-self-1) → c.args.place < length c.self.inside.order.list
@@ -27,7 +27,7 @@ written c = λ t. set c.self.inside.slots.items (the_slot c t) (the_key c t, c.a
 
 pub invariant_of-self : goal.invariant_of-self
 invariant_of-self c =
-    let P : List (PropKey × Complete) → Type 0 = λ xs. IsSound (λ key. get key_eq c.self.inside.index key) xs c.self.inside.order.list c.self.inside.order.room in
+    let P : List (PropKey × Complete) → Type 0 = λ xs. IsSoundDictionary (λ key. get key_eq c.self.inside.index key) xs c.self.inside.order.list c.self.inside.order.room in
     subst P (sym (written c)) (sound_written _ _ _ _ c.self.invariant c.args.place (inside c) c.args.property)
 
 pub returns : goal.returns

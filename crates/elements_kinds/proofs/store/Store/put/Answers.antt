@@ -2,14 +2,14 @@ use Rattle.std.proofs.Common.{◌≡◌, ◌||◌, nat_lt, false, subst, sym, ap
 use Rattle.std.proofs.lemmas.Bool.Decides.{nat_tests}
 use Rattle.elements_kinds.specs.Properties.{plain}
 use Rattle.elements_kinds.specs.Rules.{View, defined, is_dictionary_after}
-use Rattle.elements_kinds.specs.Sound.{IsSound}
+use Rattle.elements_kinds.specs.Sound.{IsSoundStore}
 use Rattle.elements_kinds.proofs.Stores.{store_view, sound-put, view-put, stays_store}
 use Rattle.elements_kinds.proofs.store.Store.put.Goals as goal
 use Rattle.elements_kinds.proofs.store.Store.put.Goals.{then-self, else-self}
 
 pub invariant_of-self-2 : goal.invariant_of-self-2
 invariant_of-self-2 g c =
-    subst (λ n. IsSound c.put_in.new.slots.values n) (sym c.max-self-inside.ensures)
+    subst (λ n. IsSoundStore c.put_in.new.slots.values n) (sym c.max-self-inside.ensures)
     (sound-put c.self.inside.slots.values c.self.inside.end c.self.invariant c.put_in.new.slots.values c.args.i c.args.value c.in_ok-put_in.ensures.ok (stays_store c.args.self.now c.args.i c.args.value c.requires.stays))
 
 pub returns-clause-ok : goal.returns-clause-ok

@@ -2,7 +2,7 @@ use Rattle.std.proofs.Common.{◌≡◌, ◌<◌, ◌≤◌, Bool, true, false, 
 use Rattle.property_keys.specs.Counts.{counted}
 use Rattle.slot_storage.specs.Steps.{counted_times}
 use Rattle.elements_kinds.specs.Rules.{removed}
-use Rattle.elements_kinds.specs.Sound.{IsSound}
+use Rattle.elements_kinds.specs.Sound.{IsSoundStore}
 use Rattle.elements_kinds.specs.Steps.{steps_down, steps_to_remove}
 use Rattle.elements_kinds.proofs.Steps.{in_turn, twice_counted}
 use Rattle.elements_kinds.proofs.Stores.{store_view, view-past, view-absent, view-last, view-inner, sound-last, steps-absent, steps-last, steps-inner}
@@ -52,7 +52,7 @@ returns-then-place-self-clause-steps g c =
     let down = c.end_below-self-inside.ensures in
     let some : is_some (get_or s.slots.values c.args.i None) ≡ true = ap is_some (sym c.get.ensures.value) ∙ present (is_some c.get.result) c.is_none.result c.is_none.ensures c.if-is_none.false in
     let inside : c.args.i < length s.slots.values = omega arith in
-    let below : IsSound c.clear.new.self.values c.end_below-self-inside.result =
+    let below : IsSoundStore c.clear.new.self.values c.end_below-self-inside.result =
     sound-last s.slots.values s.end c.self.invariant c.clear.new.self.values c.args.i c.clear.ensures.values inside some c.end_below-self-inside.result c.if-place-self.true down.within down.holes down.last in
     down.steps ∙ ap (counted_times (steps_down c.args.i c.end_below-self-inside.result)) (c.clear.ensures.steps ∙ ap counted c.get.ensures.steps)
     ∙ twice_counted (steps_down c.args.i c.end_below-self-inside.result) (g.L.Ledger.ticks c.args.steps.now)
