@@ -41,6 +41,7 @@ use Rattle.script_grammar.specs.Tree.{ParseTree, is_target, is_plain, is_and_or}
 use Rattle.script_grammar.specs.Tree.{ParseTree as parse_tree}
 use Rattle.script_grammar.specs.Kinds.{is_word, is_key, is_in, prefix_of, infix_of}
 use Rattle.script_grammar.specs.Grammar.{NoBraceOrFunction, Read, read, bracket, mark, Spells, NoElse, NoFinally, NoMore, SameLine, is_end, operand, nothing}
+use Rattle.script_grammar.specs.Grammar.{Nonterminal}
 use Rattle.script_grammar.specs.Grammar.{Nonterminal as nonterminal}
 use Rattle.script_grammar.specs.Grammar.{Spells as spells}
 use Rattle.script_grammar.specs.Machine.{Outcome, Fail, Next, fits, closing, same_line, below}
@@ -604,7 +605,7 @@ set_in i d γ vs (read (of (kinds.Bracket brackets.SquareOpen) j a) n ∷ ts) s 
 set_in i d γ vs (read _ n ∷ ts) s h = absurd h
 
 -- an operand of `??` has a tree that may stand there
-abbrev PlainTree : p → ParseTree → Type 0
+abbrev PlainTree : Nonterminal → ParseTree → Type 0
 PlainTree (nonterminal.level levels.Equal n) e = is_plain e ≡ true
 PlainTree (nonterminal.level levels.Relation n) e = is_plain e ≡ true
 PlainTree (nonterminal.level levels.Add n) e = is_plain e ≡ true
@@ -633,7 +634,7 @@ none_mixed (kinds.Short short_operator.Or) = refl
 none_mixed (kinds.Short short_operator.Coalesce) = refl
 none_mixed _ = refl
 
-plain_tree : {q : p} {d : ℕ} {e : ParseTree} {b m : List Read} → Spells q d e b m → PlainTree q e
+plain_tree : {q : Nonterminal} {d : ℕ} {e : ParseTree} {b m : List Read} → Spells q d e b m → PlainTree q e
 plain_tree (spells.level-one {v = levels.Equal} h) = plain_tree h
 plain_tree (spells.level-one {v = levels.Relation} h) = plain_tree h
 plain_tree (spells.level-one {v = levels.Add} h) = plain_tree h
@@ -679,7 +680,7 @@ Comes f e ts r = (γ : List Symbol) (vs : List ParseTree) (s : ParseTree) → Ta
 abbrev ComesBy : ℕ → (List Symbol → List Symbol) → (List Symbol → List ParseTree → Sign → Outcome (List ParseTree)) → ParseTree → List Read → List Read → Type 0
 ComesBy n tail f e ts r = (γ : List Symbol) (vs : List ParseTree) (s : ParseTree) → Refuses γ n → Takes r s (tail γ) (e ∷ vs) → Into (f γ vs) ts s
 
-abbrev Promise : p → ℕ → ParseTree → List Read → List Read → Type 0
+abbrev Promise : Nonterminal → ℕ → ParseTree → List Read → List Read → Type 0
 Promise (nonterminal.items c) d e ts r = (γ : List Symbol) (vs : List ParseTree) (s : ParseTree) → Takes r s (symbols.Loose (loose_kind.Items c) d ∷ γ) (e ∷ vs) → Takes ts s (symbols.Loose (loose_kind.Items c) d ∷ γ) (nothing ∷ vs)
 Promise (nonterminal.item c) d e ts r = Comes (λ γ vs x. grammar_machine.at_item (List ParseTree) trees c d γ vs x) e ts r
 Promise (nonterminal.lexical c) d e ts r = Comes (λ γ vs x. at_lexical c d γ vs x) e ts r
@@ -798,7 +799,7 @@ params_key spells.params-none = refl
 params_key (spells.params-some h) = refl
 params_key (spells.params-comma h) = refl
 
-pub promise : {q : p} {d : ℕ} {e : ParseTree} {ts r : List Read} → Spells q d e ts r → Promise q d e ts r
+pub promise : {q : Nonterminal} {d : ℕ} {e : ParseTree} {ts r : List Read} → Spells q d e ts r → Promise q d e ts r
 promise spells.items-none = λ γ vs s h. h
 promise (spells.items-more {h = c} {d = d} {xs = xs} {x = x} {ms = ms} {rs = rs} h i) = λ γ vs s k. promise h γ vs s (into_items c d γ (xs ∷ vs) ms s (promise i (symbols.Do (act_kinds.Pair pair.And) ∷ symbols.Loose (loose_kind.Items c) d ∷ γ) (xs ∷ vs) s (take_act (act_kinds.Pair pair.And) (symbols.Loose (loose_kind.Items c) d ∷ γ) (x ∷ xs ∷ vs) rs s k)))
 promise (spells.item-function {d = d} {i = i} {j = j} {ps = ps} {xs = xs} {ts = ts} {ms = ms} {rs = rs} h b) = λ γ vs s k. (refl, (refl, in_function (suc d) (pair.DeclaredFunction i j) γ vs ps xs ts ms rs s (promise h) (promise b) k))

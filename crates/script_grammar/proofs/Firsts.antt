@@ -10,6 +10,7 @@ use Rattle.script_grammar.specs.Tree.{ParseTree, first_token}
 use Rattle.script_grammar.specs.Tree.{ParseTree as parse_tree}
 use Rattle.script_grammar.specs.Kinds.{infix_of}
 use Rattle.script_grammar.specs.Grammar.{Read, Spells}
+use Rattle.script_grammar.specs.Grammar.{Nonterminal}
 use Rattle.script_grammar.specs.Grammar.{Nonterminal as nonterminal}
 use Rattle.script_grammar.specs.Grammar.{Spells as spells}
 use Rattle.script_grammar.specs.Firsts.{has_first, first_number}
@@ -36,7 +37,7 @@ left_first kind v f l e eq = sym (ap (λ (o : Option (Level × Pair)). joined o 
 from_left : (kind : Kind) (v : Level) (f : Pair) (l e : ParseTree) (ts : List Read) → infix_of kind ≡ Some (v, f) → Begins true l ts → Begins true (parse_tree.Pair f l e) ts
 from_left kind v f l e ts eq h = (h.0, h.1, left_first kind v f l e eq ∙ h.2)
 
-pub begins : {q : p} {d : ℕ} {e : ParseTree} {ts rs : List Read} → Spells q d e ts rs → Begins (has_first q) e ts
+pub begins : {q : Nonterminal} {d : ℕ} {e : ParseTree} {ts rs : List Read} → Spells q d e ts rs → Begins (has_first q) e ts
 begins (spells.item-function {i = i} h j) = (i, refl, refl)
 begins (spells.item-lexical h) = begins h
 begins (spells.item-statement h) = begins h
@@ -117,7 +118,7 @@ begins (spells.key-token {i = i} e) = (i, refl, refl)
 begins (spells.key-computed {i = i} h) = (i, refl, refl)
 begins _ = tt
 
-pub begins_with : (q : p) (d : ℕ) (e : ParseTree) (ts rs : List Read) → Spells q d e ts rs → has_first q ≡ true → Begins true e ts
+pub begins_with : (q : Nonterminal) (d : ℕ) (e : ParseTree) (ts rs : List Read) → Spells q d e ts rs → has_first q ≡ true → Begins true e ts
 begins_with q d e ts rs h f = go (has_first q) f (begins h)
   where
     go : (b : Bool) → b ≡ true → Begins b e ts → Begins true e ts

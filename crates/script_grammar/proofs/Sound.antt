@@ -41,6 +41,7 @@ use Rattle.script_grammar.specs.Tree.{ParseTree, is_target, is_plain, is_and_or,
 use Rattle.script_grammar.specs.Tree.{ParseTree as parse_tree}
 use Rattle.script_grammar.specs.Kinds.{is_word, is_key, is_in, prefix_of, infix_of, level_of}
 use Rattle.script_grammar.specs.Grammar.{Read, read, word, bracket, mark, Spells, NoElse, NoFinally, NoMore, SameLine, is_end, operand, nothing}
+use Rattle.script_grammar.specs.Grammar.{Nonterminal}
 use Rattle.script_grammar.specs.Grammar.{Nonterminal as nonterminal}
 use Rattle.script_grammar.specs.Grammar.{Spells as spells}
 use Rattle.script_grammar.specs.Machine.{Outcome, Fail, Next, fits, closing, same_line, below}
@@ -53,10 +54,10 @@ Kept T u Fail = Unit {0}
 Kept T u (Next γ vs n) = Done (T n) γ vs u
 
 -- the tokens behind a part, and those from which it begins, rewritten
-pub seen : {q : p} {d n : ℕ} {e : ParseTree} {ts r us : List Read} {x x' : Sign} → Spells q d e ts r → r ≡ read x n ∷ us → x ≡ x' → Spells q d e ts (read x' n ∷ us)
+pub seen : {q : Nonterminal} {d n : ℕ} {e : ParseTree} {ts r us : List Read} {x x' : Sign} → Spells q d e ts r → r ≡ read x n ∷ us → x ≡ x' → Spells q d e ts (read x' n ∷ us)
 seen {q = q} {d = d} {n = n} {e = e} {ts = ts} {us = us} h eq same = subst (λ (r : List Read). Spells q d e ts r) (eq ∙ ap (λ (x : Sign). read x n ∷ us) same) h
 
-start : {q : p} {d n j : ℕ} {e : ParseTree} {s x x' : Sign} {m m' r : List Read} → m ≡ read x n ∷ m' → x ≡ x' → Spells q d e (read s j ∷ read x' n ∷ m') r → Spells q d e (read s j ∷ m) r
+start : {q : Nonterminal} {d n j : ℕ} {e : ParseTree} {s x x' : Sign} {m m' r : List Read} → m ≡ read x n ∷ m' → x ≡ x' → Spells q d e (read s j ∷ read x' n ∷ m') r → Spells q d e (read s j ∷ m) r
 start {q = q} {d = d} {n = n} {j = j} {e = e} {s = s} {m' = m'} {r = r} eq same h =
     subst (λ (m : List Read). Spells q d e (read s j ∷ m) r) (sym (eq ∙ ap (λ (x : Sign). read x n ∷ m') same)) h
 
@@ -175,7 +176,7 @@ sound_params : (T : ℕ → List Read) (u : List Read) (d : ℕ) (γ : List Symb
 sound_params T u d γ vs (of (kinds.Bracket brackets.Open) i a) h = (u, λ x us eq f. list_none listings.Parameters d u us x eq f, λ e r s. spells.names-one s, λ ys r s. h d ys r (s i a))
 sound_params T u d γ vs _ h = tt
 
-pub cast : {q : p} {d : ℕ} {e : ParseTree} {m r r' : List Read} → Spells q d e m r → r ≡ r' → Spells q d e m r'
+pub cast : {q : Nonterminal} {d : ℕ} {e : ParseTree} {m r r' : List Read} → Spells q d e m r → r ≡ r' → Spells q d e m r'
 cast {q = q} {d = d} {e = e} {m = m} h eq = subst (λ (r : List Read). Spells q d e m r) eq h
 
 on_line : (x : Sign) (n : ℕ) (u : List Read) → same_line x ≡ true → SameLine (read x n ∷ u)
@@ -270,7 +271,7 @@ sound_part T u (expectation.Thrown j) d γ vs x h =
 -- TAILS
 
 -- a part of one of these levels that is a target is a Left
-abbrev LeftIf : p → ℕ → ParseTree → List Read → List Read → Type 0
+abbrev LeftIf : Nonterminal → ℕ → ParseTree → List Read → List Read → Type 0
 LeftIf (nonterminal.cond n) d e b m = is_target e ≡ true → Spells nonterminal.left d e b m
 LeftIf (nonterminal.short n) d e b m = is_target e ≡ true → Spells nonterminal.left d e b m
 LeftIf (nonterminal.coalesce n) d e b m = is_target e ≡ true → Spells nonterminal.left d e b m
@@ -324,7 +325,7 @@ not_true : (c : Bool) → not c ≡ true → c ≡ false
 not_true true e = absurd (cc (e))
 not_true false e = refl
 
-target : {q : p} {d : ℕ} {e : ParseTree} {b m : List Read} → Spells q d e b m → LeftIf q d e b m
+target : {q : Nonterminal} {d : ℕ} {e : ParseTree} {b m : List Read} → Spells q d e b m → LeftIf q d e b m
 target (spells.cond-short h) = target h
 target (spells.cond-choice h i j) = λ e. cc
 target (spells.short-or h) = target h
@@ -345,13 +346,13 @@ target (spells.unary-left h) = λ _. h
 target _ = tt
 
 -- what may stand beside `??`
-abbrev PlainIf : p → ℕ → ParseTree → List Read → List Read → Type 0
+abbrev PlainIf : Nonterminal → ℕ → ParseTree → List Read → List Read → Type 0
 PlainIf (nonterminal.short n) d e b m = is_plain e ≡ true → (Spells (nonterminal.level levels.Equal n) d e b m) ⊎ (Spells (nonterminal.coalesce n) d e b m)
 PlainIf (nonterminal.level levels.Or n) d e b m = is_plain e ≡ true → Spells (nonterminal.level levels.Equal n) d e b m
 PlainIf (nonterminal.level levels.And n) d e b m = is_plain e ≡ true → Spells (nonterminal.level levels.Equal n) d e b m
 PlainIf _ d e b m = Unit {0}
 
-plain : {q : p} {d : ℕ} {e : ParseTree} {b m : List Read} → Spells q d e b m → PlainIf q d e b m
+plain : {q : Nonterminal} {d : ℕ} {e : ParseTree} {b m : List Read} → Spells q d e b m → PlainIf q d e b m
 plain (spells.short-or h) = λ i. inl (plain h i)
 plain (spells.short-coalesce h) = λ i. inr h
 plain (spells.level-one {v = levels.Or} h) = plain h
@@ -504,7 +505,7 @@ list_some listings.Arguments d xs c us x s f = λ i a. spells.args-some (seen s 
 list_some listings.Parameters d xs c us x s f = λ i a. spells.params-some (seen s refl (is_close x f).2)
 list_some listings.Properties d xs c us x s f = λ i a. spells.object-some (seen s refl (is_brace_close x f).2)
 
-two_seen : {q : p} {d n n' j : ℕ} {a : Bool} {kind : Kind} {e : ParseTree} {ts m us : List Read} {x x' x2 : Sign} → Spells q d e ts (read x n ∷ m) → x ≡ of kind j a → m ≡ read x2 n' ∷ us → x2 ≡ x' → Spells q d e ts (read (of kind j a) n ∷ read x' n' ∷ us)
+two_seen : {q : Nonterminal} {d n n' j : ℕ} {a : Bool} {kind : Kind} {e : ParseTree} {ts m us : List Read} {x x' x2 : Sign} → Spells q d e ts (read x n ∷ m) → x ≡ of kind j a → m ≡ read x2 n' ∷ us → x2 ≡ x' → Spells q d e ts (read (of kind j a) n ∷ read x' n' ∷ us)
 two_seen {n = n} {n' = n'} {j = j} {a = a} {kind = kind} {us = us} s c eq f = cast (seen s refl c) (ap (λ (r : List Read). read (of kind j a) n ∷ r) (eq ∙ ap (λ (x : Sign). read x n' ∷ us) f))
 
 list_comma : (q : Listing) (d : ℕ) (xs : ParseTree) (c m us : List Read) (x x2 : Sign) → Members q d xs c (read x d ∷ m) → grammar_machine.is_comma x ≡ true → m ≡ read x2 d ∷ us → fits (closing q) x2 ≡ true → ListEnd q d xs c us
