@@ -2,10 +2,11 @@
 use Rattle.std.specs.Prelude.{ℕ, Bool, true, false, Option, Some, None, List, ◌∷◌}
 use Rattle.script_grammar.specs.declared.sign.Sign.TheVariants.{Token as of}
 use Rattle.script_grammar.specs.Grammar.{Read, read}
+use Rattle.script_grammar.specs.Grammar.{Nonterminal}
 use Rattle.script_grammar.specs.Grammar.{Nonterminal as nonterminal}
 
 -- All nodes do, and so do names and properties. The lists, what may be left out, and a catch have none.
-abbrev pub has_first : p → Bool
+abbrev pub has_first : Nonterminal → Bool
 has_first (nonterminal.items of_body) = false
 has_first (nonterminal.binds constant of_head) = false
 has_first nonterminal.params = false
