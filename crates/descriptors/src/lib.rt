@@ -8,8 +8,6 @@ mod fields;
 pub mod laws;
 mod property;
 mod refusals;
-#[cfg(test)]
-mod tests;
 mod unchanged;
 mod validation;
 

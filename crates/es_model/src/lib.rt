@@ -16,8 +16,6 @@ mod running;
 mod start_laws;
 mod start_objects;
 mod start_table;
-#[cfg(test)]
-mod start_tests;
 mod start_texts;
 mod taken;
 

@@ -14,8 +14,6 @@ mod never_failing;
 mod real_files;
 mod sinks;
 mod std_sink;
-#[cfg(test)]
-mod tests;
 mod texts;
 mod unread;
 

@@ -23,6 +23,3 @@ pub use symbols::Symbols;
 pub use texts::Texts;
 pub use units::{MOST_UNITS, Units};
 pub use values::{MOST_WHOLE, Value, same_value};
-
-#[cfg(test)]
-mod tests;

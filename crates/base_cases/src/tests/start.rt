@@ -1,7 +1,9 @@
 //! Rows of the start table.
 
-use crate::*;
 use descriptors::Complete;
+use es_model::{
+    Class, ErrorKind, Intrinsic, OwnProperty, StartText, WellKnown, start_intrinsic, start_text,
+};
 use property_keys::{Attributes, ObjectId, PropKey, SymbolId, TextId, Value};
 use std::test::Fail;
 

@@ -3,7 +3,7 @@
 ghost use Rattle.std.specs.Prelude.{◌≡◌};
 ghost use Rattle.descriptors.specs.Kinds.{is_function_field};
 
-use crate::{
+use descriptors::{
     Complete, Descriptor, Verdict, complete, from_complete, is_compatible, is_mixed, validate,
 };
 use property_keys::{Attributes, ObjectId, Value};

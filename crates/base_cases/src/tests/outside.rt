@@ -1,6 +1,9 @@
 //! Files and sinks, each call failing in turn.
 
-use super::*;
+use hc_outside::{
+    CallList, Fault, Files, MemoryFiles, MemorySink, NamedFiles, NeverFailingSink, RealFiles, Sink,
+    StdSink, text,
+};
 use std::alloc::Global;
 use std::fs;
 use std::io::{self, Write};
