@@ -22,6 +22,3 @@ pub use laws::{
     stops_are_turns,
 };
 pub use origins::{constructor_places, literal_places};
-
-#[cfg(test)]
-mod tests;

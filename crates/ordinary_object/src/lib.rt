@@ -15,6 +15,3 @@ mod turns;
 pub use frame::{OrdinaryFrame, PendingSet};
 pub use laws::rounds_suffice;
 pub use turns::{resume, start};
-
-#[cfg(test)]
-mod tests;

@@ -4,8 +4,8 @@ mod rows;
 mod seen;
 mod steps;
 
-use crate::OrdinaryFrame;
 use object_heap::Heap;
+use ordinary_object::OrdinaryFrame;
 use property_keys::NoMemory;
 use rows::Row;
 use std::alloc::Global;

@@ -1,10 +1,10 @@
 //! A step of a test, and what is seen of it.
 
-use crate::Heap;
 use descriptors::{Complete, Descriptor};
 use es_model::{CellNo, ErrorKind, Intrinsic, KeyList, ObjectKind, StartText, WellKnown};
 use es_tree::Items;
 use map_store::OriginId;
+use object_heap::Heap;
 use property_keys::{
     Attributes, Counting, KeyFault, NoMemory, ObjectId, PropKey, Steps, SymbolId, TextId, Units,
     Value,

@@ -1,8 +1,8 @@
 //! What a test sees of a turn.
 
-use crate::OrdinaryFrame;
 use descriptors::{Complete, Descriptor};
 use es_model::{Completion, Reply, Request, Stop, Turn};
+use ordinary_object::OrdinaryFrame;
 use property_keys::{NoMemory, ObjectId, PropKey, Value};
 
 /// The key of all tests.

@@ -3,7 +3,7 @@
 mod rows;
 mod steps;
 
-use crate::Heap;
+use object_heap::Heap;
 use property_keys::NoMemory;
 use rows::{BESIDE, OBJECTS};
 use std::alloc::Global;

@@ -1,10 +1,10 @@
 //! What a test does with a heap and the frame that waits.
 
 use super::seen::{KEY, Seen, seen_turn};
-use crate::{OrdinaryFrame, resume, start};
 use descriptors::{Complete, Descriptor};
 use es_model::{Completion, ErrorKind, Reply, Request, StartText, Stop, Turn, Values};
 use object_heap::Heap;
+use ordinary_object::{OrdinaryFrame, resume, start};
 use property_keys::{Counting, NoMemory, ObjectId, Steps, Value};
 use std::alloc::Global;
 

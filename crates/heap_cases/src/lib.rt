@@ -1,0 +1,5 @@
+//! Rows for the object heap, for the ordinary methods and for what calls the heap. It has no code but tests, so that none of those crates is proved twice.
+#![tactic(auto)]
+
+#[cfg(test)]
+mod tests;

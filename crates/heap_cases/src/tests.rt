@@ -1,0 +1,5 @@
+//! Every expected value follows from the rules by hand.
+
+mod callers;
+mod heap;
+mod methods;
