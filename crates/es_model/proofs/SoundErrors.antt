@@ -13,7 +13,7 @@ use Rattle.es_model.specs.declared.kinds.ErrorKind.{ErrorKind}
 use Rattle.es_model.specs.declared.kinds.ObjectKind.TheVariants as kind_of
 use Rattle.es_model.specs.declared.intrinsics.Class.TheVariants as class
 use Rattle.es_model.specs.declared.intrinsics.Intrinsic.TheVariants as intrinsic
-use Rattle.es_model.specs.declared.start_texts.StartText.TheVariants as start
+use Rattle.es_model.specs.declared.start_texts.StartText.TheVariants as start_text
 use Rattle.es_model.specs.StartTexts.{units_of_start}
 use Rattle.es_model.specs.Completions.{Completion, Throw}
 use Rattle.es_model.specs.Events.{OfError, MadePrototype}
@@ -60,8 +60,8 @@ made-there w k =
 hidden-known : (l : Lists) (t : TextId) → IsText l t → IsKnownDescriptor l (hidden (value.Text t))
 hidden-known l t h = record { value = h; get = tt; set = tt; sound = refl }
 
-message-is_no_index : array_index_of (units_of_start start.Message) ≡ None
-message-is_no_index = array_index_of-no_number (units_of_start start.Message) refl
+message-is_no_index : array_index_of (units_of_start start_text.Message) ≡ None
+message-is_no_index = array_index_of-no_number (units_of_start start_text.Message) refl
 
 -- a thrown value fits every task
 pub throw-fits : (t : Task) (l : Lists) (v : Value) → IsKnown l v → FitsTask t l (Throw v)
@@ -74,16 +74,16 @@ pub error-kept : (t : Task) (w : World) (k : ErrorKind) (text : List ℕ) → Is
 error-kept task w k text s short =
     let a : World = changed (Interning text) w in
     let t : TextId = number_of w.lists text in
-    let b : World = changed (Interning (units_of_start start.Message)) a in
-    let name : TextId = number_of a.lists (units_of_start start.Message) in
+    let b : World = changed (Interning (units_of_start start_text.Message)) a in
+    let name : TextId = number_of a.lists (units_of_start start_text.Message) in
     let c : World = changed (Making kind_of.Error OfError (error_proto k)) b in
     let e : ObjectId = new_object b.lists in
     let sa : IsSound a = sound-interning w text s short in
-    let sb : IsSound b = sound-interning a (units_of_start start.Message) sa (omega arith) in
+    let sb : IsSound b = sound-interning a (units_of_start start_text.Message) sa (omega arith) in
     let sc : IsSound c = sound-making b kind_of.Error OfError (error_proto k) sb tt tt (sb.intact.start (intrinsic.Prototype (class.Error k))).0 in
     let bc = grows-changed (Making kind_of.Error OfError (error_proto k)) b in
-    let t-known : IsText c.lists t = text-later b.lists c.lists bc t (text-later a.lists b.lists (grows-changed (Interning (units_of_start start.Message)) a) t (interned-known w text)) in
-    let key : IsKnownKey b.lists (Name name) = ((interned-known a (units_of_start start.Message), ap array_index_of (interned-names a (units_of_start start.Message)) ∙ message-is_no_index), tt) in
+    let t-known : IsText c.lists t = text-later b.lists c.lists bc t (text-later a.lists b.lists (grows-changed (Interning (units_of_start start_text.Message)) a) t (interned-known w text)) in
+    let key : IsKnownKey b.lists (Name name) = ((interned-known a (units_of_start start_text.Message), ap array_index_of (interned-names a (units_of_start start_text.Message)) ∙ message-is_no_index), tt) in
     let there : IsObject c.lists e = made-there b k in
     let d : Descriptor = hidden (value.Text t) in (
       sound-defining c e (Name name) d sc there (key-later b.lists c.lists bc (Name name) key) (hidden-known c.lists t t-known),

@@ -5,7 +5,7 @@ use Rattle.es_model.specs.declared.intrinsics.Class.TheVariants as class
 use Rattle.es_model.specs.declared.intrinsics.Intrinsic.{Intrinsic}
 use Rattle.es_model.specs.declared.intrinsics.Intrinsic.TheVariants as intrinsic
 use Rattle.es_model.specs.declared.start_texts.StartText.{StartText}
-use Rattle.es_model.specs.declared.start_texts.StartText.TheVariants as text
+use Rattle.es_model.specs.declared.start_texts.StartText.TheVariants as start_text
 use Rattle.es_model.specs.declared.start_texts.WellKnown.TheVariants as symbol
 use Rattle.es_model.specs.World.{text_place}
 use Rattle.es_model.specs.StartObjects.{start_number}
@@ -53,66 +53,66 @@ symbols-are-in-order symbol.ToPrimitive = refl
 symbols-are-in-order symbol.ToStringTag = refl
 
 text-stands : (t : StartText) → slice_get start_texts (text_number t) ≡ Some (units_of_start t)
-text-stands text.Length = refl
-text-stands text.Name = refl
-text-stands text.Prototype = refl
-text-stands text.Constructor = refl
-text-stands text.Message = refl
-text-stands text.Empty = refl
-text-stands text.GlobalThis = refl
-text-stands text.Undefined = refl
-text-stands text.Proxy = refl
-text-stands text.Reflect = refl
-text-stands (text.Symbol symbol.HasInstance) = refl
-text-stands (text.Symbol symbol.ToPrimitive) = refl
-text-stands (text.Symbol symbol.ToStringTag) = refl
-text-stands (text.Description symbol.HasInstance) = refl
-text-stands (text.Description symbol.ToPrimitive) = refl
-text-stands (text.Description symbol.ToStringTag) = refl
-text-stands (text.Class class.Object) = refl
-text-stands (text.Class class.Function) = refl
-text-stands (text.Class class.Array) = refl
-text-stands (text.Class class.String) = refl
-text-stands (text.Class class.Number) = refl
-text-stands (text.Class class.Boolean) = refl
-text-stands (text.Class class.Symbol) = refl
-text-stands (text.Class (class.Error error.Error)) = refl
-text-stands (text.Class (class.Error error.TypeError)) = refl
-text-stands (text.Class (class.Error error.RangeError)) = refl
-text-stands (text.Class (class.Error error.ReferenceError)) = refl
-text-stands (text.Class (class.Error error.SyntaxError)) = refl
-text-stands text.Print = refl
+text-stands start_text.Length = refl
+text-stands start_text.Name = refl
+text-stands start_text.Prototype = refl
+text-stands start_text.Constructor = refl
+text-stands start_text.Message = refl
+text-stands start_text.Empty = refl
+text-stands start_text.GlobalThis = refl
+text-stands start_text.Undefined = refl
+text-stands start_text.Proxy = refl
+text-stands start_text.Reflect = refl
+text-stands (start_text.Symbol symbol.HasInstance) = refl
+text-stands (start_text.Symbol symbol.ToPrimitive) = refl
+text-stands (start_text.Symbol symbol.ToStringTag) = refl
+text-stands (start_text.Description symbol.HasInstance) = refl
+text-stands (start_text.Description symbol.ToPrimitive) = refl
+text-stands (start_text.Description symbol.ToStringTag) = refl
+text-stands (start_text.Class class.Object) = refl
+text-stands (start_text.Class class.Function) = refl
+text-stands (start_text.Class class.Array) = refl
+text-stands (start_text.Class class.String) = refl
+text-stands (start_text.Class class.Number) = refl
+text-stands (start_text.Class class.Boolean) = refl
+text-stands (start_text.Class class.Symbol) = refl
+text-stands (start_text.Class (class.Error error.Error)) = refl
+text-stands (start_text.Class (class.Error error.TypeError)) = refl
+text-stands (start_text.Class (class.Error error.RangeError)) = refl
+text-stands (start_text.Class (class.Error error.ReferenceError)) = refl
+text-stands (start_text.Class (class.Error error.SyntaxError)) = refl
+text-stands start_text.Print = refl
 
 text-found : (t : StartText) → text_place start_texts (units_of_start t) ≡ text_number t
-text-found text.Length = refl
-text-found text.Name = refl
-text-found text.Prototype = refl
-text-found text.Constructor = refl
-text-found text.Message = refl
-text-found text.Empty = refl
-text-found text.GlobalThis = refl
-text-found text.Undefined = refl
-text-found text.Proxy = refl
-text-found text.Reflect = refl
-text-found (text.Symbol symbol.HasInstance) = refl
-text-found (text.Symbol symbol.ToPrimitive) = refl
-text-found (text.Symbol symbol.ToStringTag) = refl
-text-found (text.Description symbol.HasInstance) = refl
-text-found (text.Description symbol.ToPrimitive) = refl
-text-found (text.Description symbol.ToStringTag) = refl
-text-found (text.Class class.Object) = refl
-text-found (text.Class class.Function) = refl
-text-found (text.Class class.Array) = refl
-text-found (text.Class class.String) = refl
-text-found (text.Class class.Number) = refl
-text-found (text.Class class.Boolean) = refl
-text-found (text.Class class.Symbol) = refl
-text-found (text.Class (class.Error error.Error)) = refl
-text-found (text.Class (class.Error error.TypeError)) = refl
-text-found (text.Class (class.Error error.RangeError)) = refl
-text-found (text.Class (class.Error error.ReferenceError)) = refl
-text-found (text.Class (class.Error error.SyntaxError)) = refl
-text-found text.Print = refl
+text-found start_text.Length = refl
+text-found start_text.Name = refl
+text-found start_text.Prototype = refl
+text-found start_text.Constructor = refl
+text-found start_text.Message = refl
+text-found start_text.Empty = refl
+text-found start_text.GlobalThis = refl
+text-found start_text.Undefined = refl
+text-found start_text.Proxy = refl
+text-found start_text.Reflect = refl
+text-found (start_text.Symbol symbol.HasInstance) = refl
+text-found (start_text.Symbol symbol.ToPrimitive) = refl
+text-found (start_text.Symbol symbol.ToStringTag) = refl
+text-found (start_text.Description symbol.HasInstance) = refl
+text-found (start_text.Description symbol.ToPrimitive) = refl
+text-found (start_text.Description symbol.ToStringTag) = refl
+text-found (start_text.Class class.Object) = refl
+text-found (start_text.Class class.Function) = refl
+text-found (start_text.Class class.Array) = refl
+text-found (start_text.Class class.String) = refl
+text-found (start_text.Class class.Number) = refl
+text-found (start_text.Class class.Boolean) = refl
+text-found (start_text.Class class.Symbol) = refl
+text-found (start_text.Class (class.Error error.Error)) = refl
+text-found (start_text.Class (class.Error error.TypeError)) = refl
+text-found (start_text.Class (class.Error error.RangeError)) = refl
+text-found (start_text.Class (class.Error error.ReferenceError)) = refl
+text-found (start_text.Class (class.Error error.SyntaxError)) = refl
+text-found start_text.Print = refl
 
 pub texts-are-in-order : TextsAreInOrder
 texts-are-in-order t = (text-stands t, text-found t)

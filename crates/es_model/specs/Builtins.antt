@@ -2,7 +2,7 @@
 -- object's number.
 use Rattle.std.specs.Prelude.{ℕ, Bool, false, Option, Some, None, List, map, slice_index_or}
 use Rattle.es_model.specs.declared.kinds.ObjectKind.{ObjectKind}
-use Rattle.es_model.specs.declared.kinds.ObjectKind.TheVariants as kind
+use Rattle.es_model.specs.declared.kinds.ObjectKind.TheVariants as kind_of
 use Rattle.es_model.specs.declared.intrinsics.Intrinsic.{Intrinsic}
 use Rattle.es_model.specs.StartTable.{start_kind}
 use Rattle.es_model.specs.StartWorld.{all_intrinsics}
@@ -14,7 +14,7 @@ pub record BuiltinFacts : Type 0 where
 
 -- no start object is a revoke function
 abbrev pub facts_of : ObjectKind → Option BuiltinFacts
-facts_of (kind.Builtin row constructor proxy) = Some (record { constructs = constructor; revokes = false })
+facts_of (kind_of.Builtin row constructor proxy) = Some (record { constructs = constructor; revokes = false })
 facts_of other = None
 
 abbrev pub start_row : Intrinsic → Option BuiltinFacts

@@ -7,7 +7,7 @@ use Rattle.property_keys.specs.declared.keys.PropKey.TheVariants.{Index, Name, S
 use Rattle.descriptors.specs.declared.property.Complete.{Complete}
 use Rattle.es_model.specs.declared.owned.OwnProperty.{OwnProperty}
 use Rattle.es_model.specs.declared.kinds.ObjectKind.{ObjectKind}
-use Rattle.es_model.specs.declared.kinds.ObjectKind.TheVariants as kind
+use Rattle.es_model.specs.declared.kinds.ObjectKind.TheVariants as kind_of
 
 pub record Object : Type 0 where
   pub kind : ObjectKind
@@ -49,7 +49,7 @@ with_properties object ps = record object { properties = ps }
 
 -- what stands where no object is
 abbrev pub no_object : Object
-no_object = record { kind = kind.Ordinary; proto = None; extensible = false; properties = [] }
+no_object = record { kind = kind_of.Ordinary; proto = None; extensible = false; properties = [] }
 
 abbrev pub object_at : List Object → ObjectId → Object
 object_at objects object = slice_index_or objects object.0 no_object
@@ -58,7 +58,7 @@ abbrev pub put_object : List Object → ObjectId → Object → List Object
 put_object objects object x = slice_set objects object.0 x
 
 abbrev pub is_proxy : ObjectKind → Bool
-is_proxy (kind.Proxy target handler callable constructor) = true
+is_proxy (kind_of.Proxy target handler callable constructor) = true
 is_proxy other = false
 
 -- a new object, without properties. A Proxy has no prototype and no properties of its own (10.5)
@@ -70,10 +70,10 @@ new_object_of k proto =
 
 -- a Proxy without its target and handler (10.5)
 abbrev pub revoked_kind : ObjectKind → ObjectKind
-revoked_kind (kind.Proxy target handler callable constructor) = kind.Proxy None None callable constructor
+revoked_kind (kind_of.Proxy target handler callable constructor) = kind_of.Proxy None None callable constructor
 revoked_kind other = other
 
 -- an arguments object whose index i shares no cell any more (10.4.4)
 abbrev pub unmapped_kind : ObjectKind → ℕ → ObjectKind
-unmapped_kind (kind.Arguments cells) i = kind.Arguments (slice_set cells i None)
+unmapped_kind (kind_of.Arguments cells) i = kind_of.Arguments (slice_set cells i None)
 unmapped_kind other i = other

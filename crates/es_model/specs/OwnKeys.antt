@@ -5,7 +5,7 @@ use Rattle.property_keys.specs.declared.keys.PropKey.{PropKey}
 use Rattle.property_keys.specs.declared.keys.PropKey.TheVariants.{Index, Name, Sym}
 use Rattle.es_model.specs.declared.owned.OwnProperty.{OwnProperty}
 use Rattle.es_model.specs.declared.kinds.ObjectKind.{ObjectKind}
-use Rattle.es_model.specs.declared.kinds.ObjectKind.TheVariants as kind
+use Rattle.es_model.specs.declared.kinds.ObjectKind.TheVariants as kind_of
 use Rattle.es_model.specs.Objects.{Object, object_at}
 use Rattle.es_model.specs.World.{Lists, units_of}
 
@@ -31,7 +31,7 @@ with_indices_below (suc n) is = with_indices_below n (put_index n is)
 
 -- how many code units are own properties beside the list: those of a String object
 abbrev pub code_units : Lists → ObjectKind → ℕ
-code_units l (kind.Text t) = length (units_of l t)
+code_units l (kind_of.Text t) = length (units_of l t)
 code_units l other = 0
 
 abbrev pub is_name : PropKey → Bool

@@ -2,7 +2,7 @@
 use Rattle.std.specs.Prelude.{◌≡◌, ℕ, Some, length, slice_get}
 use Rattle.es_model.specs.declared.intrinsics.Intrinsic.{Intrinsic}
 use Rattle.es_model.specs.declared.start_texts.StartText.{StartText}
-use Rattle.es_model.specs.declared.start_texts.StartText.TheVariants as text
+use Rattle.es_model.specs.declared.start_texts.StartText.TheVariants as start_text
 use Rattle.es_model.specs.declared.start_texts.WellKnown.{WellKnown}
 use Rattle.es_tree.specs.Tree.{Tree}
 use Rattle.es_model.specs.World.{text_place}
@@ -21,7 +21,7 @@ ObjectsAreInOrder =
 
 -- each well-known Symbol stands at its number, with its description
 abbrev pub SymbolsAreInOrder : Type 0
-SymbolsAreInOrder = (s : WellKnown) → slice_get start_symbols (symbol_number s) ≡ Some (Some (text_of (text.Description s)))
+SymbolsAreInOrder = (s : WellKnown) → slice_get start_symbols (symbol_number s) ≡ Some (Some (text_of (start_text.Description s)))
 
 -- each start text stands at its number, and is found there
 abbrev pub TextsAreInOrder : Type 0

@@ -10,13 +10,13 @@ use Rattle.es_model.specs.declared.owned.OwnProperty.{OwnProperty}
 use Rattle.es_model.specs.declared.kinds.ErrorKind.{ErrorKind}
 use Rattle.es_model.specs.declared.kinds.ErrorKind.TheVariants as error
 use Rattle.es_model.specs.declared.kinds.ObjectKind.{ObjectKind}
-use Rattle.es_model.specs.declared.kinds.ObjectKind.TheVariants as kind
+use Rattle.es_model.specs.declared.kinds.ObjectKind.TheVariants as kind_of
 use Rattle.es_model.specs.declared.intrinsics.Class.{Class}
 use Rattle.es_model.specs.declared.intrinsics.Class.TheVariants as class
 use Rattle.es_model.specs.declared.intrinsics.Intrinsic.{Intrinsic}
 use Rattle.es_model.specs.declared.intrinsics.Intrinsic.TheVariants as intrinsic
 use Rattle.es_model.specs.declared.start_texts.StartText.{StartText}
-use Rattle.es_model.specs.declared.start_texts.StartText.TheVariants as text
+use Rattle.es_model.specs.declared.start_texts.StartText.TheVariants as start_text
 use Rattle.es_model.specs.declared.start_texts.WellKnown.{WellKnown}
 use Rattle.es_model.specs.declared.start_texts.WellKnown.TheVariants as symbol
 use Rattle.es_model.specs.StartObjects.{object_of, start_number}
@@ -26,27 +26,27 @@ use Rattle.es_model.specs.StartTexts.{symbol_of, text_of}
 
 -- the row of a built-in function that is a start object is the object's number
 abbrev pub builtin : Intrinsic → Bool → ObjectKind
-builtin i constructor = kind.Builtin (start_number i) constructor None
+builtin i constructor = kind_of.Builtin (start_number i) constructor None
 
 -- %Array.prototype% is an Array (23.1.3), those of String, Number and Boolean are a String, Number and Boolean object (22.1.3, 21.1.3, 20.3.3), that
 -- of Function is a function (20.2.3), and the others are ordinary
 abbrev pub prototype_kind : Class → ObjectKind
-prototype_kind class.Object = kind.Ordinary
+prototype_kind class.Object = kind_of.Ordinary
 prototype_kind class.Function = builtin (intrinsic.Prototype class.Function) false
-prototype_kind class.Array = kind.Array
-prototype_kind class.String = kind.Text (text_of text.Empty)
-prototype_kind class.Number = kind.Wrapper (value.Whole (pos 0))
-prototype_kind class.Boolean = kind.Wrapper (value.Bool false)
-prototype_kind class.Symbol = kind.Ordinary
-prototype_kind (class.Error e) = kind.Ordinary
+prototype_kind class.Array = kind_of.Array
+prototype_kind class.String = kind_of.Text (text_of start_text.Empty)
+prototype_kind class.Number = kind_of.Wrapper (value.Whole (pos 0))
+prototype_kind class.Boolean = kind_of.Wrapper (value.Bool false)
+prototype_kind class.Symbol = kind_of.Ordinary
+prototype_kind (class.Error e) = kind_of.Ordinary
 
 abbrev pub start_kind : Intrinsic → ObjectKind
-start_kind intrinsic.Global = kind.Ordinary
+start_kind intrinsic.Global = kind_of.Ordinary
 start_kind (intrinsic.Constructor c) = builtin (intrinsic.Constructor c) true
 start_kind (intrinsic.Prototype c) = prototype_kind c
 start_kind intrinsic.Proxy = builtin intrinsic.Proxy true
 start_kind intrinsic.ThrowTypeError = builtin intrinsic.ThrowTypeError false
-start_kind intrinsic.Reflect = kind.Ordinary
+start_kind intrinsic.Reflect = kind_of.Ordinary
 start_kind intrinsic.Print = builtin intrinsic.Print false
 
 -- ---- their prototypes
@@ -114,24 +114,24 @@ text_value t = value.Text (text_of t)
 
 -- a constructor on the global object
 abbrev pub global_class : Class → OwnProperty
-global_class c = hidden (text.Class c) (object (intrinsic.Constructor c))
+global_class c = hidden (start_text.Class c) (object (intrinsic.Constructor c))
 
 -- the constructor on its prototype object
 abbrev pub constructor : Class → OwnProperty
-constructor c = hidden text.Constructor (object (intrinsic.Constructor c))
+constructor c = hidden start_text.Constructor (object (intrinsic.Constructor c))
 
 -- a well-known Symbol on the constructor of Symbols (20.4.2)
 abbrev pub well_known : WellKnown → OwnProperty
-well_known s = fixed (text.Symbol s) (value.Symbol (symbol_of s))
+well_known s = fixed (start_text.Symbol s) (value.Symbol (symbol_of s))
 
 -- ---- the table
 
 -- 19.1, 19.3, 19.4, and the function that prints a line
 abbrev pub global_properties : List OwnProperty
 global_properties =
-    hidden text.GlobalThis (object intrinsic.Global)
-    ∷ fixed text.Undefined value.Undefined
-    ∷ hidden text.Print (object intrinsic.Print)
+    hidden start_text.GlobalThis (object intrinsic.Global)
+    ∷ fixed start_text.Undefined value.Undefined
+    ∷ hidden start_text.Print (object intrinsic.Print)
     ∷ global_class class.Object
     ∷ global_class class.Function
     ∷ global_class class.Array
@@ -144,16 +144,16 @@ global_properties =
     ∷ global_class (class.Error error.RangeError)
     ∷ global_class (class.Error error.ReferenceError)
     ∷ global_class (class.Error error.SyntaxError)
-    ∷ hidden text.Proxy (object intrinsic.Proxy)
-    ∷ hidden text.Reflect (object intrinsic.Reflect)
+    ∷ hidden start_text.Proxy (object intrinsic.Proxy)
+    ∷ hidden start_text.Reflect (object intrinsic.Reflect)
     ∷ []
 
 -- a constructor: length, name, prototype, and what comes then
 abbrev pub constructor_with : Class → ℕ → List OwnProperty → List OwnProperty
 constructor_with c parameters rest =
-    readonly text.Length (value.Whole (pos parameters))
-    ∷ readonly text.Name (text_value (text.Class c))
-    ∷ fixed text.Prototype (object (intrinsic.Prototype c))
+    readonly start_text.Length (value.Whole (pos parameters))
+    ∷ readonly start_text.Name (text_value (start_text.Class c))
+    ∷ fixed start_text.Prototype (object (intrinsic.Prototype c))
     ∷ rest
 
 abbrev pub is_class_of_symbols : Class → Bool
@@ -170,28 +170,28 @@ constructor_properties c =
 abbrev pub prototype_properties : Class → List OwnProperty
 prototype_properties class.Object = constructor class.Object ∷ []
 prototype_properties class.Function =
-    readonly text.Length (value.Whole (pos 0))
-    ∷ readonly text.Name (text_value text.Empty)
+    readonly start_text.Length (value.Whole (pos 0))
+    ∷ readonly start_text.Name (text_value start_text.Empty)
     ∷ constructor class.Function
     ∷ []
 prototype_properties class.Array =
-    stored true false (Name (text_of text.Length)) (value.Whole (pos 0))
+    stored true false (Name (text_of start_text.Length)) (value.Whole (pos 0))
     ∷ constructor class.Array
     ∷ []
 prototype_properties class.String =
-    fixed text.Length (value.Whole (pos 0))
+    fixed start_text.Length (value.Whole (pos 0))
     ∷ constructor class.String
     ∷ []
 prototype_properties class.Number = constructor class.Number ∷ []
 prototype_properties class.Boolean = constructor class.Boolean ∷ []
 prototype_properties class.Symbol =
     constructor class.Symbol
-    ∷ tag (text.Class class.Symbol)
+    ∷ tag (start_text.Class class.Symbol)
     ∷ []
 prototype_properties (class.Error e) =
     constructor (class.Error e)
-    ∷ hidden text.Name (text_value (text.Class (class.Error e)))
-    ∷ hidden text.Message (text_value text.Empty)
+    ∷ hidden start_text.Name (text_value (start_text.Class (class.Error e)))
+    ∷ hidden start_text.Message (text_value start_text.Empty)
     ∷ []
 
 abbrev pub start_properties : Intrinsic → List OwnProperty
@@ -199,15 +199,15 @@ start_properties intrinsic.Global = global_properties
 start_properties (intrinsic.Constructor c) = constructor_properties c
 start_properties (intrinsic.Prototype c) = prototype_properties c
 start_properties intrinsic.Proxy =
-    readonly text.Length (value.Whole (pos 2))
-    ∷ readonly text.Name (text_value text.Proxy)
+    readonly start_text.Length (value.Whole (pos 2))
+    ∷ readonly start_text.Name (text_value start_text.Proxy)
     ∷ []
 start_properties intrinsic.ThrowTypeError =
-    fixed text.Length (value.Whole (pos 0))
-    ∷ fixed text.Name (text_value text.Empty)
+    fixed start_text.Length (value.Whole (pos 0))
+    ∷ fixed start_text.Name (text_value start_text.Empty)
     ∷ []
-start_properties intrinsic.Reflect = tag text.Reflect ∷ []
+start_properties intrinsic.Reflect = tag start_text.Reflect ∷ []
 start_properties intrinsic.Print =
-    readonly text.Length (value.Whole (pos 0))
-    ∷ readonly text.Name (text_value text.Print)
+    readonly start_text.Length (value.Whole (pos 0))
+    ∷ readonly start_text.Name (text_value start_text.Print)
     ∷ []

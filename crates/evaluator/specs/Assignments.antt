@@ -3,7 +3,7 @@ use Rattle.std.specs.Prelude.{Bool, true, false, if◌then◌else◌, ℤ, pos, 
 use Rattle.property_keys.specs.declared.values.Value.{Value}
 use Rattle.property_keys.specs.declared.values.Value.TheVariants as value
 use Rattle.es_tree.specs.declared.expressions.AssignOperator.{AssignOperator}
-use Rattle.es_tree.specs.declared.expressions.AssignOperator.TheVariants as assign
+use Rattle.es_tree.specs.declared.expressions.AssignOperator.TheVariants as assign_operator
 use Rattle.es_tree.specs.declared.names.Target.{Target}
 use Rattle.es_tree.specs.declared.numbers.NodeId.{NodeId}
 use Rattle.es_model.specs.declared.requests.Operation.TheVariants as operation
@@ -41,11 +41,11 @@ abbrev pub compound_reference : Context → Arithmetic → NodeId → Reference 
 compound_reference here op v r = get_value here r (compound_read here op v r)
 
 abbrev pub assignment : Context → AssignOperator → Target → NodeId → Program
-assignment here assign.Plain target v = target_reference here target (assign_reference here v)
-assignment here assign.Add target v = target_reference here target (compound_reference here arithmetic.Add v)
-assignment here assign.Subtract target v = target_reference here target (compound_reference here arithmetic.Subtract v)
-assignment here assign.Multiply target v = target_reference here target (compound_reference here arithmetic.Multiply v)
-assignment here assign.Remainder target v = target_reference here target (compound_reference here arithmetic.Remainder v)
+assignment here assign_operator.Plain target v = target_reference here target (assign_reference here v)
+assignment here assign_operator.Add target v = target_reference here target (compound_reference here arithmetic.Add v)
+assignment here assign_operator.Subtract target v = target_reference here target (compound_reference here arithmetic.Subtract v)
+assignment here assign_operator.Multiply target v = target_reference here target (compound_reference here arithmetic.Multiply v)
+assignment here assign_operator.Remainder target v = target_reference here target (compound_reference here arithmetic.Remainder v)
 
 -- ---- `++` and `--` (13.4): the target's reference, the read, ToNumeric, the write. The value is the new one, or the old one where the operator stands behind
 

@@ -26,7 +26,7 @@ use Rattle.es_tree.specs.declared.primaries.Property.{Property}
 use Rattle.es_tree.specs.declared.primaries.Property.TheVariants as property
 use Rattle.es_tree.specs.Tree.{Tree}
 use Rattle.es_model.specs.declared.intrinsics.Class.TheVariants as class
-use Rattle.es_model.specs.declared.kinds.ObjectKind.TheVariants as kind
+use Rattle.es_model.specs.declared.kinds.ObjectKind.TheVariants as kind_of
 use Rattle.es_model.specs.declared.requests.Operation.TheVariants as operation
 use Rattle.es_model.specs.declared.requests.Request.TheVariants.{SetProto}
 use Rattle.es_model.specs.Completions.{Completion}
@@ -158,7 +158,7 @@ literal_origin script n = origin_of script.literals n (slice_get script.literals
 
 abbrev pub object_literal : Context → NodeId → LiteralNo → Program
 object_literal here n literal =
-    make kind.Ordinary (literal_origin here.script literal) (Some (prototype_of class.Object)) (λ o. properties_from here o (properties_at here n))
+    make kind_of.Ordinary (literal_origin here.script literal) (Some (prototype_of class.Object)) (λ o. properties_from here o (properties_at here n))
 
 -- ---- array literals (13.2.4.2): not written yet
 

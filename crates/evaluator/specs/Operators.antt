@@ -6,13 +6,13 @@ use Rattle.property_keys.specs.declared.values.Value.TheVariants as value
 use Rattle.property_keys.specs.Values.{same_value}
 use Rattle.es_tree.specs.declared.expressions.Access.TheVariants as access
 use Rattle.es_tree.specs.declared.expressions.BinaryOperator.{BinaryOperator}
-use Rattle.es_tree.specs.declared.expressions.BinaryOperator.TheVariants as binary
+use Rattle.es_tree.specs.declared.expressions.BinaryOperator.TheVariants as binary_operator
 use Rattle.es_tree.specs.declared.expressions.Operator.{Operator}
 use Rattle.es_tree.specs.declared.expressions.Operator.TheVariants as operator
 use Rattle.es_tree.specs.declared.expressions.ShortOperator.{ShortOperator}
-use Rattle.es_tree.specs.declared.expressions.ShortOperator.TheVariants as short
+use Rattle.es_tree.specs.declared.expressions.ShortOperator.TheVariants as short_operator
 use Rattle.es_tree.specs.declared.expressions.UnaryOperator.{UnaryOperator}
-use Rattle.es_tree.specs.declared.expressions.UnaryOperator.TheVariants as unary
+use Rattle.es_tree.specs.declared.expressions.UnaryOperator.TheVariants as unary_operator
 use Rattle.es_tree.specs.declared.names.Binding.TheVariants as binding
 use Rattle.es_tree.specs.declared.names.Named.{Named}
 use Rattle.es_tree.specs.declared.node.Node.{Node}
@@ -95,12 +95,12 @@ abbrev pub not_valued : Completion → Program
 not_valued c = then_value not_value c
 
 abbrev pub unary_expression : Context → UnaryOperator → NodeId → Program
-unary_expression here unary.Delete n = delete_at here n (node_at here n)
-unary_expression here unary.Void n = evaluate here n void_valued
-unary_expression here unary.Typeof n = typeof_at here n (node_at here n)
-unary_expression here unary.Plus n = evaluate here n plus_valued
-unary_expression here unary.Minus n = evaluate here n minus_valued
-unary_expression here unary.Not n = evaluate here n not_valued
+unary_expression here unary_operator.Delete n = delete_at here n (node_at here n)
+unary_expression here unary_operator.Void n = evaluate here n void_valued
+unary_expression here unary_operator.Typeof n = typeof_at here n (node_at here n)
+unary_expression here unary_operator.Plus n = evaluate here n plus_valued
+unary_expression here unary_operator.Minus n = evaluate here n minus_valued
+unary_expression here unary_operator.Not n = evaluate here n not_valued
 
 -- ---- ApplyStringOrNumericBinaryOperator (13.15.3), and what is done with the result
 
@@ -169,20 +169,20 @@ is_in a (value.Object o) = convert operation.ToKey a (in_keyed o)
 is_in a other = not_an_object
 
 abbrev pub compare : Context → BinaryOperator → Value → Value → Program
-compare here binary.Multiply a b = apply here arithmetic.Multiply finish.Give a b
-compare here binary.Remainder a b = apply here arithmetic.Remainder finish.Give a b
-compare here binary.Add a b = apply here arithmetic.Add finish.Give a b
-compare here binary.Subtract a b = apply here arithmetic.Subtract finish.Give a b
-compare here binary.Less a b = is_less a b true flag_given
-compare here binary.Greater a b = is_less b a false flag_given
-compare here binary.AtMost a b = is_less b a false flag_denied
-compare here binary.AtLeast a b = is_less a b true flag_denied
-compare here binary.InstanceOf a b = ask (Work operation.InstanceOf (a ∷ b ∷ [])) flag_given
-compare here binary.In a b = is_in a b
-compare here binary.Equal a b = ask (Work operation.LooselyEqual (a ∷ b ∷ [])) flag_given
-compare here binary.NotEqual a b = ask (Work operation.LooselyEqual (a ∷ b ∷ [])) flag_denied
-compare here binary.StrictlyEqual a b = gives (value.Bool (same_value a b))
-compare here binary.NotStrictlyEqual a b = gives (value.Bool (not (same_value a b)))
+compare here binary_operator.Multiply a b = apply here arithmetic.Multiply finish.Give a b
+compare here binary_operator.Remainder a b = apply here arithmetic.Remainder finish.Give a b
+compare here binary_operator.Add a b = apply here arithmetic.Add finish.Give a b
+compare here binary_operator.Subtract a b = apply here arithmetic.Subtract finish.Give a b
+compare here binary_operator.Less a b = is_less a b true flag_given
+compare here binary_operator.Greater a b = is_less b a false flag_given
+compare here binary_operator.AtMost a b = is_less b a false flag_denied
+compare here binary_operator.AtLeast a b = is_less a b true flag_denied
+compare here binary_operator.InstanceOf a b = ask (Work operation.InstanceOf (a ∷ b ∷ [])) flag_given
+compare here binary_operator.In a b = is_in a b
+compare here binary_operator.Equal a b = ask (Work operation.LooselyEqual (a ∷ b ∷ [])) flag_given
+compare here binary_operator.NotEqual a b = ask (Work operation.LooselyEqual (a ∷ b ∷ [])) flag_denied
+compare here binary_operator.StrictlyEqual a b = gives (value.Bool (same_value a b))
+compare here binary_operator.NotStrictlyEqual a b = gives (value.Bool (not (same_value a b)))
 
 abbrev pub right_valued : Context → BinaryOperator → Value → Completion → Program
 right_valued here op a c = then_value (λ b. compare here op a b) c
@@ -193,9 +193,9 @@ left_valued here op right c = then_value (λ a. evaluate here right (right_value
 -- ---- && || ?? (13.13) and ?: (13.14)
 
 abbrev pub goes_right : ShortOperator → Lists → Value → Bool
-goes_right short.And l v = is_truth l v
-goes_right short.Or l v = not (is_truth l v)
-goes_right short.Coalesce l v = is_nullish v
+goes_right short_operator.And l v = is_truth l v
+goes_right short_operator.Or l v = not (is_truth l v)
+goes_right short_operator.Coalesce l v = is_nullish v
 
 abbrev pub short_value : Context → ShortOperator → NodeId → Value → Program
 short_value here op right v = look (λ l. if goes_right op l v then evaluate_last here right else gives v)

@@ -9,7 +9,7 @@ use Rattle.property_keys.specs.declared.values.Value.{Value}
 use Rattle.property_keys.specs.declared.values.Value.TheVariants as value
 use Rattle.property_keys.specs.Keys.{key_of}
 use Rattle.property_keys.specs.Wholes.{most_whole}
-use Rattle.es_model.specs.declared.start_texts.StartText.TheVariants as start
+use Rattle.es_model.specs.declared.start_texts.StartText.TheVariants as start_text
 use Rattle.es_model.specs.StartTexts.{text_number}
 use Rattle.es_model.specs.World.{Lists, kind, units_of}
 use Rattle.es_model.specs.Program.{Program, look}
@@ -40,7 +40,7 @@ with_key units next = make_text units (λ t. look (λ l. next (key_of_text l t))
 
 -- the text `length`, which has its number from the start on
 abbrev pub is_length : TextId → Bool
-is_length t = nat_eq t.0 (text_number start.Length)
+is_length t = nat_eq t.0 (text_number start_text.Length)
 
 abbrev pub has_unit : Option ℕ → Bool
 has_unit None = false

@@ -12,7 +12,7 @@ use Rattle.descriptors.specs.declared.property.Complete.TheVariants as complete
 use Rattle.descriptors.specs.Validation.{verdict_of}
 use Rattle.es_model.specs.declared.kinds.ErrorKind.{ErrorKind}
 use Rattle.es_model.specs.declared.kinds.ObjectKind.TheVariants as kind_of
-use Rattle.es_model.specs.declared.start_texts.StartText.TheVariants as text
+use Rattle.es_model.specs.declared.start_texts.StartText.TheVariants as start_text
 use Rattle.es_model.specs.StartTexts.{text_of}
 use Rattle.es_model.specs.Objects.{new_object_of}
 use Rattle.es_model.specs.Events.{OfError}
@@ -28,7 +28,7 @@ use Rattle.object_heap.proofs.Change.{goes-interned, goes-making, goes-added}
 use Rattle.object_heap.proofs.TextNumbers.{message-stays}
 
 abbrev pub message_key : PropKey
-message_key = Name (text_of text.Message)
+message_key = Name (text_of start_text.Message)
 
 abbrev pub message_of : TextId → Complete
 message_of t = complete.Stored (value.Text t) (record { writable = true; enumerable = false; configurable = true })
@@ -50,7 +50,7 @@ pub error-is : (heap : HeapView) (w : World) → StandsFor heap w → record { 0
 unfolding changed text_known
 error-is heap w h = ap (λ n. record { 0 = n }) (count-stands heap w h)
 
-name-is : (heap : HeapView) (w : World) → IsTable heap.texts → StandsFor heap w → number_of w.lists (codes "message") ≡ text_of text.Message
+name-is : (heap : HeapView) (w : World) → IsTable heap.texts → StandsFor heap w → number_of w.lists (codes "message") ≡ text_of start_text.Message
 unfolding number_of
 name-is heap w t h = ap (λ ts. record { 0 = text_place ts (codes "message") }) (sym (texts-stand heap w h)) ∙ ap (λ n. record { 0 = n }) t.message
 

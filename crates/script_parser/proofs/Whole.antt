@@ -1,7 +1,7 @@
 -- The whole of `parse`.
 use Rattle.std.proofs.Common.{suc, zero, ◌+◌, ◌≡◌, ◌≤◌, ℕ, List, [], ◌∷◌, ◌++◌, length, drop, take, map, reverse, slice_get, refl, subst, ap, sym, ◌∙◌, Option, Some, None, Ok, Err, add-one, arith, length-append}
 use Rattle.std.proofs.lemmas.List.{length-reverse}
-use Rattle.es_source.specs.declared.faults.FaultCode.TheVariants as fault_code
+use Rattle.es_source.specs.declared.faults.FaultCode.TheVariants as code
 use Rattle.es_source.specs.declared.faults.SourceFault.{SourceFault}
 use Rattle.es_source.specs.declared.token.Token.{Token}
 use Rattle.es_source.specs.Reading.{Reading as Source, fault_at}
@@ -97,25 +97,25 @@ fault_parses r a f h e = ((a, h, e), λ b k. subst (λ (c : ParseAnswer). GivesA
     gives (Unexpected i) e = e
     gives (TooDeep i) e = e
 
-placed : (r : Source) (i : ℕ) (t : Token) (f : SourceFault) → slice_get r.tokens i ≡ Some t → f ≡ fault_at fault_code.Unexpected (place_by r.ending (Some t)) → fault_of r (Unexpected i) ≡ Some f
-placed r i t f e g = ap (λ (o : Option Token). Some (fault_at fault_code.Unexpected (place_by r.ending o))) e ∙ ap (λ (f : SourceFault). Some f) (sym g)
+placed : (r : Source) (i : ℕ) (t : Token) (f : SourceFault) → slice_get r.tokens i ≡ Some t → f ≡ fault_at code.Unexpected (place_by r.ending (Some t)) → fault_of r (Unexpected i) ≡ Some f
+placed r i t f e g = ap (λ (o : Option Token). Some (fault_at code.Unexpected (place_by r.ending o))) e ∙ ap (λ (f : SourceFault). Some f) (sym g)
 
-placed_deep : (r : Source) (i : ℕ) (t : Token) (f : SourceFault) → slice_get r.tokens i ≡ Some t → f ≡ fault_at fault_code.TooDeep (place_by r.ending (Some t)) → fault_of r (TooDeep i) ≡ Some f
-placed_deep r i t f e g = ap (λ (o : Option Token). Some (fault_at fault_code.TooDeep (place_by r.ending o))) e ∙ ap (λ (f : SourceFault). Some f) (sym g)
+placed_deep : (r : Source) (i : ℕ) (t : Token) (f : SourceFault) → slice_get r.tokens i ≡ Some t → f ≡ fault_at code.TooDeep (place_by r.ending (Some t)) → fault_of r (TooDeep i) ≡ Some f
+placed_deep r i t f e g = ap (λ (o : Option Token). Some (fault_at code.TooDeep (place_by r.ending o))) e ∙ ap (λ (f : SourceFault). Some f) (sym g)
 
 pub parses_refused : (p q : Parser) (r : Source) (i : ℕ) (t u : Token) (v : Reading) (f : SourceFault) → Behind p r.tokens i → slice_get r.tokens i ≡ Some t → v ≡ Refused → ReadsOne p q i t v
-    → slice_get r.tokens i ≡ Some u → f ≡ fault_at fault_code.Unexpected (place_by r.ending (Some u)) → Parses r (Err (Fault f))
+    → slice_get r.tokens i ≡ Some u → f ≡ fault_at code.Unexpected (place_by r.ending (Some u)) → Parses r (Err (Fault f))
 parses_refused p q r i t u v f b e g h e' k = fault_parses r (Unexpected i) f (refused_at p q r.tokens i t v b e g h) (placed r i u f e' k)
 
 pub parses_deep : (p q : Parser) (r : Source) (i : ℕ) (t u : Token) (v : Reading) (f : SourceFault) → Behind p r.tokens i → slice_get r.tokens i ≡ Some t → v ≡ Deep → ReadsOne p q i t v
-    → slice_get r.tokens i ≡ Some u → f ≡ fault_at fault_code.TooDeep (place_by r.ending (Some u)) → Parses r (Err (Fault f))
+    → slice_get r.tokens i ≡ Some u → f ≡ fault_at code.TooDeep (place_by r.ending (Some u)) → Parses r (Err (Fault f))
 parses_deep p q r i t u v f b e g h e' k = fault_parses r (TooDeep i) f (deep_at p q r.tokens i t v b e g h) (placed_deep r i u f e' k)
 
 pub parses_cut : (p q : Parser) (r : Source) (i : ℕ) (v : Option ℕ) (f : SourceFault) → Behind p r.tokens i → length r.tokens ≤ i → v ≡ None → EndsWith p q v
-    → f ≡ fault_at fault_code.Unexpected r.ending → Parses r (Err (Fault f))
+    → f ≡ fault_at code.Unexpected r.ending → Parses r (Err (Fault f))
 parses_cut p q r i v f b l g h k =
     fault_parses r (Unexpected i) f (cut_at p q r.tokens i v b l g h)
-    (ap (λ (o : Option Token). Some (fault_at fault_code.Unexpected (place_by r.ending o))) (none_at r.tokens i l) ∙ ap (λ (f : SourceFault). Some f) (sym k))
+    (ap (λ (o : Option Token). Some (fault_at code.Unexpected (place_by r.ending o))) (none_at r.tokens i l) ∙ ap (λ (f : SourceFault). Some f) (sym k))
 
 whole_at : (p q : Parser) (ts : List Token) (i root : ℕ) (v : Option ℕ) → Behind p ts i → length ts ≤ i → v ≡ Some root → EndsWith p q v → (x : ParseTree) × HasTree q.nodes.items root x × Derives ts x
 whole_at p q ts i root v b l f r =

@@ -35,7 +35,8 @@ abbrev pub words : List (List ℕ)
 words =
     codes "valueOf" ∷ codes "toString" ∷ codes "string" ∷ codes "number" ∷ codes "default" ∷ codes "undefined" ∷ codes "null" ∷ codes "true" ∷ codes "-5"
     ∷ codes "  -0x1 " ∷ codes "0B101" ∷ codes "+7" ∷ codes "007" ∷ [] ∷ codes "9007199254740992" ∷ codes "1" ∷ codes "x" ∷ codes "ab" ∷ codes "ac"
-    ∷ codes "length" ∷ codes "4294967294" ∷ codes "prototype" ∷ codes "enumerable" ∷ codes "configurable" ∷ codes "value" ∷ codes "writable" ∷ codes "get" ∷ codes "set" ∷ []
+    ∷ codes "length" ∷ codes "4294967294" ∷ codes "prototype" ∷ codes "enumerable" ∷ codes "configurable"
+    ∷ codes "value" ∷ codes "writable" ∷ codes "get" ∷ codes "set" ∷ []
 
 -- the text at a place of the table
 abbrev pub word : ℕ → Value

@@ -9,7 +9,7 @@ use Rattle.property_keys.specs.declared.values.Value.{Value}
 use Rattle.property_keys.specs.declared.values.Value.TheVariants as value
 use Rattle.descriptors.specs.declared.fields.Descriptor.{Descriptor}
 use Rattle.descriptors.specs.declared.property.Complete.TheVariants as complete
-use Rattle.es_model.specs.declared.kinds.ObjectKind.TheVariants as kind
+use Rattle.es_model.specs.declared.kinds.ObjectKind.TheVariants as kind_of
 use Rattle.es_model.specs.declared.owned.OwnProperty.{OwnProperty}
 use Rattle.es_model.specs.declared.requests.Request.{Request}
 use Rattle.es_model.specs.declared.requests.Request.TheVariants.{Define, Has, Read, Write, Delete, Keys, SetProto, Extensible, Prevent, Call, Construct}
@@ -63,22 +63,22 @@ abbrev pub has_functions : PropKey → Option ObjectId → Option ObjectId → O
 has_functions k getter setter = record { key = k; complete = complete.Accessor getter setter true true }
 
 abbrev pub plain : Option ObjectId → List OwnProperty → Object
-plain up ps = record { kind = kind.Ordinary; proto = up; extensible = true; properties = ps }
+plain up ps = record { kind = kind_of.Ordinary; proto = up; extensible = true; properties = ps }
 
 abbrev pub shut : Option ObjectId → List OwnProperty → Object
-shut up ps = record { kind = kind.Ordinary; proto = up; extensible = false; properties = ps }
+shut up ps = record { kind = kind_of.Ordinary; proto = up; extensible = false; properties = ps }
 
 abbrev pub a_function : Object
-a_function = record { kind = kind.Function (record { 0 = 0 }) false true; proto = None; extensible = true; properties = [] }
+a_function = record { kind = kind_of.Function (record { 0 = 0 }) false true; proto = None; extensible = true; properties = [] }
 
 -- a Proxy of object 0
 abbrev pub a_proxy : Object
-a_proxy = record { kind = kind.Proxy (Some (at 0)) (Some (at 1)) false false; proto = None; extensible = false; properties = [] }
+a_proxy = record { kind = kind_of.Proxy (Some (at 0)) (Some (at 1)) false false; proto = None; extensible = false; properties = [] }
 
 -- a new error of this prototype, with the text of the first number under the text of the second
 abbrev pub an_error : ℕ → ℕ → ℕ → Object
 an_error up said name = record {
-  kind = kind.Error;
+  kind = kind_of.Error;
   proto = Some (at up);
   extensible = true;
   properties = holds (text name) (value.Text (record { 0 = said })) hidden_flags ∷ [];

@@ -10,10 +10,10 @@ use Rattle.es_model.specs.Completions.{Completion, Normal, Throw}
 use Rattle.es_model.specs.declared.answers.Reply.TheVariants as reply
 use Rattle.es_model.specs.declared.kinds.ErrorKind.{ErrorKind}
 use Rattle.es_model.specs.declared.kinds.ErrorKind.TheVariants as error
-use Rattle.es_model.specs.declared.kinds.ObjectKind.TheVariants as kind
+use Rattle.es_model.specs.declared.kinds.ObjectKind.TheVariants as kind_of
 use Rattle.es_model.specs.declared.intrinsics.Class.TheVariants as class
 use Rattle.es_model.specs.declared.intrinsics.Intrinsic.TheVariants as intrinsic
-use Rattle.es_model.specs.declared.start_texts.StartText.TheVariants as start
+use Rattle.es_model.specs.declared.start_texts.StartText.TheVariants as start_text
 use Rattle.es_model.specs.StartObjects.{object_of}
 use Rattle.es_model.specs.StartTexts.{units_of_start}
 use Rattle.es_model.specs.Events.{OfError}
@@ -44,7 +44,7 @@ error_proto k = Some (object_of (intrinsic.Prototype (class.Error k)))
 -- a new error object with a message (20.5.1.1, 20.5.6.1.1)
 abbrev pub make_error : ErrorKind → TextId → (ObjectId → Program) → Program
 make_error k text next =
-    intern (units_of_start start.Message) (λ name. make kind.Error OfError (error_proto k) (λ e.
+    intern (units_of_start start_text.Message) (λ name. make kind_of.Error OfError (error_proto k) (λ e.
     define e (Name name) (hidden (value.Text text)) (λ b. next e)))
 
 abbrev pub throw_error : ErrorKind → List ℕ → Program
