@@ -36,7 +36,7 @@ impl Parser {
         depth: u32,
         part: Expected,
     ) -> Result<Option<u32>, NoMemory>
-        ensures { Moves self.old self.new result (m.Next (Symbol.Part part (suc depth) ∷ stack self.old) (state self.old) (suc depth)) }
+        ensures { Moves self.old self.new result (grammar_machine.Next (Symbol.Part part (suc depth) ∷ stack self.old) (state self.old) (suc depth)) }
     {
         let inner = deeper(depth)?;
         self.expect(&[Symbol::Part(part, inner)])?;
@@ -45,7 +45,7 @@ impl Parser {
 
     /// Expects a stage, in one production more.
     pub(super) fn stage_deeper(&mut self, depth: u32, stage: Stage) -> Result<Option<u32>, NoMemory>
-        ensures { Moves self.old self.new result (m.Next (Symbol.Stage stage (suc depth) ∷ stack self.old) (state self.old) (suc depth)) }
+        ensures { Moves self.old self.new result (grammar_machine.Next (Symbol.Stage stage (suc depth) ∷ stack self.old) (state self.old) (suc depth)) }
     {
         let inner = deeper(depth)?;
         self.expect(&[Symbol::Stage(stage, inner)])?;
@@ -54,7 +54,7 @@ impl Parser {
 
     /// A part that is a single token.
     pub(super) fn atom(&mut self, depth: u32, label: Atom) -> Result<Option<u32>, NoMemory>
-        ensures { Moves self.old self.new result (m.Next (stack self.old) (numbers.act (Act.Atom label) (state self.old)) depth) }
+        ensures { Moves self.old self.new result (grammar_machine.Next (stack self.old) (numbers.act (Act.Atom label) (state self.old)) depth) }
     {
         self.act(Act::Atom(label))?;
         Ok(Some(depth))

@@ -60,7 +60,7 @@ impl Parser {
 
     /// Parameters and body, and work to be done behind them.
     fn expect_function(&mut self, label: Pair, depth: u32) -> Result<Option<u32>, NoMemory>
-        ensures { Moves self.old self.new result (m.Next (Symbol.Part Expected.Parameters depth ∷ Symbol.Part Expected.Body depth ∷ Symbol.Do (Act.Pair label) ∷ stack self.old) (state self.old) depth) }
+        ensures { Moves self.old self.new result (grammar_machine.Next (Symbol.Part Expected.Parameters depth ∷ Symbol.Part Expected.Body depth ∷ Symbol.Do (Act.Pair label) ∷ stack self.old) (state self.old) depth) }
     {
         self.expect(&[
             Symbol::Do(Act::Pair(label)),

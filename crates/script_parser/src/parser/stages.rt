@@ -96,7 +96,7 @@ impl Parser {
         depth: u32,
         x: Sign,
     ) -> Result<Option<u32>, NoMemory>
-        ensures { Moves self.old self.new result (cond (grammar_machine.fits end x) (m.Next (stack self.old) (state self.old) depth) (cond (grammar_machine.is_comma x) (m.Next (Symbol.Stage again depth ∷ stack self.old) (state self.old) depth) m.Fail)) }
+        ensures { Moves self.old self.new result (cond (grammar_machine.fits end x) (grammar_machine.Next (stack self.old) (state self.old) depth) (cond (grammar_machine.is_comma x) (grammar_machine.Next (Symbol.Stage again depth ∷ stack self.old) (state self.old) depth) grammar_machine.Fail)) }
     {
         if fits(end, x) {
             return Ok(Some(depth));
@@ -110,7 +110,7 @@ impl Parser {
 
     /// An element of an array literal that is left out.
     fn hole(&mut self, depth: u32) -> Result<Option<u32>, NoMemory>
-        ensures { Moves self.old self.new result (m.Next (Symbol.Stage Stage.Elements depth ∷ stack self.old) (numbers.act (Act.Pair Pair.And) (numbers.act (Act.Atom Atom.Hole) (state self.old))) depth) }
+        ensures { Moves self.old self.new result (grammar_machine.Next (Symbol.Stage Stage.Elements depth ∷ stack self.old) (numbers.act (Act.Pair Pair.And) (numbers.act (Act.Atom Atom.Hole) (state self.old))) depth) }
     {
         self.act(Act::Atom(Atom::Hole))?;
         self.act(Act::Pair(Pair::And))?;

@@ -90,7 +90,7 @@ impl Parser {
 
     /// `break` or `continue`, of which only the `;` is left.
     fn jump(&mut self, depth: u32, label: Atom) -> Result<Option<u32>, NoMemory>
-        ensures { Moves self.old self.new result (m.Next (Symbol.Take (Terminal.Semicolon false) (suc depth) ∷ stack self.old) (numbers.act (Act.Atom label) (state self.old)) (suc depth)) }
+        ensures { Moves self.old self.new result (grammar_machine.Next (Symbol.Take (Terminal.Semicolon false) (suc depth) ∷ stack self.old) (numbers.act (Act.Atom label) (state self.old)) (suc depth)) }
     {
         let inner = deeper(depth)?;
         self.act(Act::Atom(label))?;
