@@ -53,18 +53,20 @@ fn calls(alloc: Global, call: u64) -> Result<CallList, Fail> {
     Ok(list)
 }
 
+// The number of the failing call (there is no call 0), the name, and what is noted. A failed read takes nothing.
+static READS: [(u64, &str, &str); 6] = [
+    (0, "a", "se|ve|n|||"),
+    (1, "a", "!"),
+    (2, "a", "!|se|ve|n||"),
+    (3, "a", "se|!|ve|n||"),
+    (6, "a", "se|ve|n||!|"),
+    (0, "b", "!"),
+];
+
 #[test]
 fn reads_files_in_memory(rt: HostRuntime) -> Result<(), Fail> {
-    // The number of the failing call (there is no call 0), the name, and what is noted. A failed read takes nothing.
-    let cases = [
-        (0, "a", "se|ve|n|||"),
-        (1, "a", "!"),
-        (2, "a", "!|se|ve|n||"),
-        (3, "a", "se|!|ve|n||"),
-        (6, "a", "se|ve|n||!|"),
-        (0, "b", "!"),
-    ];
-    for (call, name, wanted) in cases {
+    for row in READS.iter() {
+        let (call, name, wanted) = *row;
         let alloc = rt.alloc();
         let mut named = NamedFiles::new(alloc);
         named.push(text(alloc, "a")?, b"seven")?;
@@ -80,17 +82,20 @@ fn reads_files_in_memory(rt: HostRuntime) -> Result<(), Fail> {
     Ok(())
 }
 
+// The number of the failing call, the answers, and what the sink then holds. A failing write appends the first half: two
+// of five bytes, one of three.
+static WRITES: [(u64, &str, &str); 4] = [
+    (0, "...", "sevensix"),
+    (1, "!..", "sesix"),
+    (2, ".!.", "sevens"),
+    (3, "..!", "sevensix"),
+];
+
 #[test]
 fn writes_to_memory(rt: HostRuntime) -> Result<(), Fail> {
     let alloc = rt.alloc();
-    // A failing write appends the first half: two of five bytes, one of three.
-    let cases = [
-        (0, "...", "sevensix"),
-        (1, "!..", "sesix"),
-        (2, ".!.", "sevens"),
-        (3, "..!", "sevensix"),
-    ];
-    for (call, answers, held) in cases {
+    for row in WRITES.iter() {
+        let (call, answers, held) = *row;
         let mut sink = MemorySink::new(alloc, calls(alloc, call)?);
         assert_eq!(rt;
             marks(&mut sink).as_slice(),
@@ -149,18 +154,20 @@ impl Write for Narrow {
     }
 }
 
+// The room of the writer, whether it fails, the answers, and what it holds.
+static NARROW: [(usize, bool, &str, &str); 5] = [
+    (9, false, "...", "sevensix"),
+    (9, true, "..!", "sevensix"),
+    (3, false, "!!.", "sev"),
+    (3, true, "!!!", "sev"),
+    (5, false, ".!.", "seven"),
+];
+
 #[test]
 fn writes_to_writers(rt: HostRuntime) -> Result<(), Fail> {
     let alloc = rt.alloc();
-    // The room of the writer, whether it fails, the answers, and what it holds.
-    let cases = [
-        (9, false, "...", "sevensix"),
-        (9, true, "..!", "sevensix"),
-        (3, false, "!!.", "sev"),
-        (3, true, "!!!", "sev"),
-        (5, false, ".!.", "seven"),
-    ];
-    for (room, fails, answers, held) in cases {
+    for row in NARROW.iter() {
+        let (room, fails, answers, held) = *row;
         let mut writer = Narrow {
             bytes: Vec::new(alloc),
             room,

@@ -7,7 +7,6 @@ use property_keys::{
     Units, Value, same_value,
 };
 use std::alloc::Global;
-use std::process::Abort;
 use std::test::Fail;
 
 /// The code units of an ASCII text.
@@ -19,14 +18,10 @@ fn made(alloc: Global, text: &str) -> Result<Units, Fail> {
     Ok(units)
 }
 
-/// The number of a text, new or known.
-fn interned(alloc: Global, texts: &mut Texts, text: &str) -> Result<TextId, Fail> {
-    Ok(texts.intern(made(alloc, text)?)?)
-}
-
-/// Whether the text with this number is this one.
-fn is_text(alloc: Global, texts: &Texts, id: TextId, text: &str) -> Result<bool, Fail> {
-    Ok(*texts.units(id) == made(alloc, text)?)
+/// Whether a text gets this number and has these code units.
+fn is_interned(alloc: Global, texts: &mut Texts, text: &str, number: u32) -> Result<bool, Fail> {
+    let id = texts.intern(made(alloc, text)?)?;
+    Ok(id == TextId(number) && *texts.units(id) == made(alloc, text)?)
 }
 
 /// The number of a text, if it has one.
@@ -41,52 +36,45 @@ static NUMBERS: [(&str, u32); 4] = [("a", 0), ("b", 1), ("a", 0), ("", 2)];
 fn equal_texts_have_one_number(rt: HostRuntime) -> Result<(), Fail> {
     let alloc = rt.alloc();
     let mut texts = Texts::new(alloc)?;
-    for (text, number) in NUMBERS {
-        let id = interned(alloc, &mut texts, text)?;
-        assert_eq!(rt; id, TextId(number), "{text}");
-        assert!(rt; is_text(alloc, &texts, id, text)?, "{text}");
+    for row in NUMBERS.iter() {
+        assert!(rt; is_interned(alloc, &mut texts, row.0, row.1)?, "{}", row.0);
     }
-    for (text, number) in NUMBERS {
-        assert_eq!(rt; found(alloc, &texts, text)?, Some(TextId(number)), "{text}");
+    for row in NUMBERS.iter() {
+        assert_eq!(rt;
+            found(alloc, &texts, row.0)?,
+            Some(TextId(row.1)),
+            "{}",
+            row.0
+        );
     }
     assert_eq!(rt; found(alloc, &texts, "c")?, None);
     Ok(())
 }
 
-fn check_whole(
-    rt: &impl Abort,
-    alloc: Global,
-    texts: &mut Texts,
-    n: i64,
-    want: &str,
-) -> Result<(), Fail>
+/// Whether this is the text of a number.
+fn is_text_of(alloc: Global, texts: &mut Texts, n: i64, want: &str) -> Result<bool, Fail>
     requires { IsWhole n }
 {
     let id = texts.whole_text(n)?;
-    assert!(rt; is_text(alloc, texts, id, want)?, "{n}");
-    Ok(())
+    Ok(*texts.units(id) == made(alloc, want)?)
 }
 
 #[test]
 fn whole_numbers_in_decimal(rt: HostRuntime) -> Result<(), Fail> {
     let alloc = rt.alloc();
     let mut texts = Texts::new(alloc)?;
-    check_whole(&rt, alloc, &mut texts, 0, "0")?;
-    check_whole(&rt, alloc, &mut texts, -1, "-1")?;
-    check_whole(
-        &rt,
-        alloc,
-        &mut texts,
-        9_007_199_254_740_991,
-        "9007199254740991",
-    )?;
-    check_whole(
-        &rt,
-        alloc,
-        &mut texts,
-        -9_007_199_254_740_991,
-        "-9007199254740991",
-    )
+    assert!(rt; is_text_of(alloc, &mut texts, 0, "0")?);
+    assert!(rt; is_text_of(alloc, &mut texts, -1, "-1")?);
+    assert!(rt; is_text_of(alloc, &mut texts, 9_007_199_254_740_991, "9007199254740991")?);
+    assert!(rt;
+        is_text_of(
+            alloc,
+            &mut texts,
+            -9_007_199_254_740_991,
+            "-9007199254740991"
+        )?
+    );
+    Ok(())
 }
 
 /// A text of the greatest length.
@@ -111,12 +99,12 @@ fn texts_are_joined_up_to_the_limit(rt: HostRuntime) -> Result<(), Fail> {
     let alloc = rt.alloc();
     let mut texts = Texts::new(alloc)?;
     let long = texts.intern(longest(alloc)?)?;
-    let empty = interned(alloc, &mut texts, "")?;
-    let one = interned(alloc, &mut texts, "b")?;
+    let empty = texts.intern(Units::new(alloc))?;
+    let one = texts.intern(made(alloc, "b")?)?;
     assert_eq!(rt; texts.concat(long, empty), Ok(long));
     assert_eq!(rt; texts.concat(long, one), Err(KeyFault::TooLong));
     let two = texts.concat(one, one)?;
-    assert!(rt; is_text(alloc, &texts, two, "bb")?);
+    assert!(rt; *texts.units(two) == made(alloc, "bb")?);
     Ok(())
 }
 
@@ -138,19 +126,23 @@ static KEYS: [(&str, Option<u32>); 14] = [
     ("length", None),
 ];
 
+/// Whether this is the key of a text, and the text that of the key.
+fn has_key(alloc: Global, texts: &mut Texts, text: &str, index: Option<u32>) -> Result<bool, Fail> {
+    let id = texts.intern(made(alloc, text)?)?;
+    let key = texts.key(id);
+    let want = match index {
+        Some(index) => PropKey::Index(index),
+        None => PropKey::Name(id),
+    };
+    Ok(key == want && texts.key_text(key) == Ok(id))
+}
+
 #[test]
 fn keys_of_texts(rt: HostRuntime) -> Result<(), Fail> {
     let alloc = rt.alloc();
     let mut texts = Texts::new(alloc)?;
-    for (text, index) in KEYS {
-        let id = interned(alloc, &mut texts, text)?;
-        let key = texts.key(id);
-        let want = match index {
-            Some(index) => PropKey::Index(index),
-            None => PropKey::Name(id),
-        };
-        assert_eq!(rt; key, want, "{text}");
-        assert_eq!(rt; texts.key_text(key), Ok(id), "{text}");
+    for row in KEYS.iter() {
+        assert!(rt; has_key(alloc, &mut texts, row.0, row.1)?, "{}", row.0);
     }
     Ok(())
 }
@@ -188,13 +180,23 @@ static TEXT_NUMBERS: [(&str, Result<i64, NotWhole>); 29] = [
     ("Infinity", Err(NotWhole)),
 ];
 
+/// The number of the text that has these code units.
+fn number_of(texts: &mut Texts, units: Units) -> Result<Result<i64, NotWhole>, Fail> {
+    let id = texts.intern(units)?;
+    Ok(texts.text_whole(id))
+}
+
 #[test]
 fn numbers_of_texts(rt: HostRuntime) -> Result<(), Fail> {
     let alloc = rt.alloc();
     let mut texts = Texts::new(alloc)?;
-    for (text, want) in TEXT_NUMBERS {
-        let id = interned(alloc, &mut texts, text)?;
-        assert_eq!(rt; texts.text_whole(id), want, "{text}");
+    for row in TEXT_NUMBERS.iter() {
+        assert_eq!(rt;
+            number_of(&mut texts, made(alloc, row.0)?)?,
+            row.1,
+            "{}",
+            row.0
+        );
     }
     Ok(())
 }
@@ -208,42 +210,28 @@ static BLANKS: [u16; 25] = [
 // Neighbours of theirs that are none.
 static OTHERS: [u16; 8] = [0x8, 0xE, 0x85, 0x180E, 0x1FFF, 0x200B, 0x2060, 0xFFFE];
 
-/// The number of the text that has these code units.
-fn number_of(
-    texts: &mut Texts,
-    alloc: Global,
-    parts: [u16; 4],
-) -> Result<Result<i64, NotWhole>, Fail> {
+/// A text of four code units.
+fn four(alloc: Global, parts: [u16; 4]) -> Result<Units, Fail> {
     let mut units = Units::new(alloc);
     for unit in parts {
         units.push(unit)?;
     }
-    let id = texts.intern(units)?;
-    Ok(texts.text_whole(id))
+    Ok(units)
 }
 
 #[test]
 fn blanks_at_both_ends(rt: HostRuntime) -> Result<(), Fail> {
     let alloc = rt.alloc();
     let mut texts = Texts::new(alloc)?;
-    for blank in BLANKS {
-        assert_eq!(rt;
-            number_of(&mut texts, alloc, [blank, blank, 55, blank])?,
-            Ok(7),
-            "{blank}"
-        );
+    for blank in BLANKS.iter() {
+        let units = four(alloc, [*blank, *blank, 55, *blank])?;
+        assert_eq!(rt; number_of(&mut texts, units)?, Ok(7), "{blank}");
     }
-    for other in OTHERS {
-        assert_eq!(rt;
-            number_of(&mut texts, alloc, [55, 55, 55, other])?,
-            Err(NotWhole),
-            "{other}"
-        );
-        assert_eq!(rt;
-            number_of(&mut texts, alloc, [other, 55, 55, 55])?,
-            Err(NotWhole),
-            "{other}"
-        );
+    for other in OTHERS.iter() {
+        let behind = four(alloc, [55, 55, 55, *other])?;
+        assert_eq!(rt; number_of(&mut texts, behind)?, Err(NotWhole), "{other}");
+        let before = four(alloc, [*other, 55, 55, 55])?;
+        assert_eq!(rt; number_of(&mut texts, before)?, Err(NotWhole), "{other}");
     }
     Ok(())
 }

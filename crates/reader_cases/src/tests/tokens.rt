@@ -79,7 +79,10 @@ static GOOD: &[Good] = &[
             Seen(Wanted::Punctuator(")"), 3, 10, false),
             Seen(Wanted::Punctuator(";"), 3, 11, false),
         ],
-        end: (3, 12),
+        end: Place {
+            line: 3,
+            column: 12,
+        },
     },
     Good {
         source: "a\nb",
