@@ -134,6 +134,6 @@ request-kept (Print line) w s h = (s, tt)
 
 pub each-kept : KeepsEachBy program_of
 each-kept (Of q) w s h = request-kept q w s h
-each-kept (Evaluating body cells name n) w s h = node-kept w body cells name n s
-each-kept (Statements body cells list i) w s h = statements-kept w body cells list i s
-each-kept (Round body cells n) w s h = round-kept w body cells n s
+each-kept (Evaluating body cells name n) w s h = node-kept w body cells name n s h
+each-kept (Statements body cells list i) w s h = statements-kept w body cells list i s h
+each-kept (Round body cells n) w s h = round-kept w body cells n s h

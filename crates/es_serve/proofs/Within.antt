@@ -1,10 +1,11 @@
 -- Every task's program keeps within its weight.
-use Rattle.std.proofs.Common.{ℕ, ◌≤◌, Option, Some, None, List, sym, true≢false}
+use Rattle.std.proofs.Common.{ℕ, ◌+◌, ◌*◌, ◌≤◌, Option, Some, None, List, sym, true≢false, arith}
 use Rattle.property_keys.specs.declared.identifiers.ObjectId.{ObjectId}
 use Rattle.property_keys.specs.declared.keys.PropKey.{PropKey}
 use Rattle.property_keys.specs.declared.values.Value.{Value}
 use Rattle.property_keys.specs.declared.values.Value.TheVariants as value
 use Rattle.es_tree.specs.declared.numbers.SiteId.{SiteId}
+use Rattle.es_tree.specs.Definitions.{most_definitions}
 use Rattle.es_tree.specs.Tree.{Tree}
 use Rattle.es_model.specs.declared.kinds.ObjectKind.{ObjectKind}
 use Rattle.es_model.specs.declared.kinds.ObjectKind.TheVariants as kind_of
@@ -107,11 +108,16 @@ request-within r enough script (Construct f arguments target) = λ l. construct_
 request-within r enough script (Work op operands) = work-within r enough op operands
 request-within r enough script (Print line) = tt
 
+-- a charge gives enough for the longest object literal of the script
+renewed-literals : (script : Tree) → 200 + 40 * most_definitions script.nodes ≤ renewed script
+unfolding renewed
+renewed-literals script = omega arith
+
 pub programs-within : AreWithin program_of
 programs-within script (Of q) = request-within (renewed script) (renewed-enough script) script q
-programs-within script (Evaluating body cells name n) = node-within (renewed script) script body cells name n
-programs-within script (Statements body cells list i) = statements-within (renewed script) script body cells list i
-programs-within script (Round body cells n) = round-within (renewed script) script body cells n
+programs-within script (Evaluating body cells name n) = node-within (renewed script) script body cells name n (renewed-literals script)
+programs-within script (Statements body cells list i) = statements-within (renewed script) script body cells list i (renewed-enough script)
+programs-within script (Round body cells n) = round-within (renewed script) script body cells n (renewed-enough script)
 
 pub programs-charge_first : ChargeFirst program_of
 programs-charge_first script (Of q) e = absurd (true≢false (sym e))

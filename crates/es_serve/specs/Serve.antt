@@ -21,7 +21,8 @@ use Rattle.es_model.specs.Servers.{model_by}
 use Rattle.es_model.specs.programs.Errors.{entering, unwritten, not_a_function, not_a_constructor}
 use Rattle.ordinary_object.specs.Ordinary.{ordinary_program}
 use Rattle.plain_builtins.specs.Plain as plain
-use Rattle.evaluator.specs.Unwritten as evaluator
+use Rattle.evaluator.specs.Functions as functions
+use Rattle.evaluator.specs.Tasks as evaluator
 
 -- ---- internal methods other than Call and Construct
 
@@ -54,7 +55,7 @@ noting (Some site) way o k receiver p = look (λ l. if is_counted (kind l o) o k
 -- ---- Call (10.2.1, 10.3.1, 10.5.12) and Construct (10.2.2, 10.3.2, 10.5.13): what has the method is entered
 
 abbrev pub call_of : Tree → ObjectKind → ObjectId → Value → List Value → Program
-call_of script (kind_of.Function function constructor strict) f this arguments = entering (evaluator.call_program script function f this arguments)
+call_of script (kind_of.Function function constructor strict) f this arguments = entering (functions.call_program script function f this arguments)
 call_of script (kind_of.Builtin row constructor proxy) f this arguments = entering (plain.row_program row arguments)
 call_of script (kind_of.Proxy target handler callable constructor) f this arguments = if callable then entering unwritten else not_a_function
 call_of script other f this arguments = not_a_function
@@ -65,7 +66,7 @@ call_program script other this arguments = not_a_function
 
 abbrev pub construct_of : Tree → ObjectKind → ObjectId → List Value → ObjectId → Program
 construct_of script (kind_of.Function function constructor strict) f arguments target =
-    if constructor then entering (evaluator.construct_program script function f arguments target) else not_a_constructor
+    if constructor then entering (functions.construct_program script function f arguments target) else not_a_constructor
 construct_of script (kind_of.Builtin row constructor proxy) f arguments target = if constructor then entering unwritten else not_a_constructor
 construct_of script (kind_of.Proxy target handler callable constructor) f arguments new_target = if constructor then entering unwritten else not_a_constructor
 construct_of script other f arguments target = not_a_constructor

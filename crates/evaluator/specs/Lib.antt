@@ -13,4 +13,3 @@ pub mod Scopes
 pub mod Statements
 pub mod Tasks
 pub mod Values
-pub mod Unwritten

@@ -74,11 +74,16 @@ is_anonymous script other = false
 abbrev pub plain : Value → Descriptor
 plain v = record { value = Some v; writable = Some true; get = None; set = None; enumerable = Some true; configurable = Some true }
 
+-- the function of an accessor, which is an object: a method comes to nothing else
+abbrev pub accessor : Value → Value
+accessor (value.Object o) = value.Object o
+accessor other = value.Undefined
+
 abbrev pub getter : Value → Descriptor
-getter f = record { value = None; writable = None; get = Some f; set = None; enumerable = Some true; configurable = Some true }
+getter f = record { value = None; writable = None; get = Some (accessor f); set = None; enumerable = Some true; configurable = Some true }
 
 abbrev pub setter : Value → Descriptor
-setter f = record { value = None; writable = None; get = None; set = Some f; enumerable = Some true; configurable = Some true }
+setter f = record { value = None; writable = None; get = None; set = Some (accessor f); enumerable = Some true; configurable = Some true }
 
 -- CreateDataPropertyOrThrow (7.3.7) on the new object, which refuses nothing, and what comes then
 abbrev pub property_valued : ObjectId → PropKey → (Value → Descriptor) → Program → Completion → Program

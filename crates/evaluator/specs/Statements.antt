@@ -85,14 +85,15 @@ block_last here block list = enter_scope here block.names (λ inner. statements 
 
 -- ---- let and const (14.3.1.2). An anonymous function gets the name
 
+-- a name with its value, or with undefined where it has none, and what comes then
+abbrev pub declare_first : Context → Declared → Option NodeId → Program → Program
+declare_first here d None next = initialise here d.named.binding value.Undefined next
+declare_first here d (Some n) next = make_text d.named.name (λ name.
+    evaluate_named here (Some name) n (λ c. then_value (λ v. initialise here d.named.binding v next) c))
+
 abbrev pub declare_all : Context → List Declared → Program
 declare_all here [] = falls
-declare_all here (d ∷ ds) =
-    elim d.value as (λ v. Program) [
-      | None ↦ initialise here d.named.binding value.Undefined (declare_all here ds)
-      | Some n ↦ make_text d.named.name (λ name.
-          evaluate_named here (Some name) n (λ c. then_value (λ v. initialise here d.named.binding v (declare_all here ds)) c))
-    ]
+declare_all here (d ∷ ds) = declare_first here d d.value (declare_all here ds)
 
 abbrev pub declared_in : Option Node → List Declared
 declared_in (Some (node.Statement (statement.Lexical constant names))) = names

@@ -2,6 +2,7 @@
 #![tactic(auto)]
 
 mod conversations;
+mod evaluations;
 
 ghost use Rattle.small_worlds.specs.SmallWorlds.{CallEnters, CallHalts, CallOfObject, CallOfProxy, CallOfUndefined, CallTooDeep, ConstructOfFunction, CycleHalts, CycleRefused, CycleThroughProxy, DefineAdds, DefineAddsEmpty, DefineGetter, DefineGetterOverFixed, DefineHides, DefineKeeps, DefineKeepsFixed, DefineNoGetter, DefineNothing, DefineOnClosed, DefineOverFixed, DefineOverGetter, DefineShowsFixed, DeleteAbsent, DeleteFixed, DeleteOpen, GetCallsGetter, GetGoesUp, GetHaltsAtGetter, GetHandsReceiver, GetOfNothing, GetWithoutGetter, GetterHasReceiver, HasEntersProxy, HasGoesUp, HasHalts, HasNot, ImmutableRefused, ImmutableSame, IndexIsPut, IndexIsRemoved, IsClosed, IsOpen, KeysInOrder, NoKey, NoReceiver, NullIsSet, OtherOnClosed, PlainIsNoProxy, PreventAgain, PreventCloses, ProxyBelongs, ReadForOther, ReadIsNoted, ReadOfIndex, SameOnClosed, SameOnOpen, SelfRefused, SetAdds, SetBelongs, SetCallsSetter, SetHandsReceiver, SetOnClosed, SetOnNoObject, SetOverFunctions, SetOverReadOnly, SetReadOnly, SetReplaces, SetWithoutSetter, SetterHasValue, SetterReturns, WholeChainIsSet, WriteIsNoted};
 
@@ -9,6 +10,10 @@ pub use conversations::{
     descriptors_are_read, instances_are_found, keys_are_made, lines_are_asked_for, lists_are_made,
     numbers_are_read, objects_are_wrapped, primitives_are_converted, texts_are_made,
     values_are_compared, values_are_ordered,
+};
+pub use evaluations::{
+    calls_are_made, halts_are_exact, members_are_accessed, names_are_looked_up,
+    operators_are_applied, primaries_are_evaluated, statements_run,
 };
 
 /// `[[Get]]` goes up the prototypes to a value, a getter or nothing.

@@ -1,0 +1,138 @@
+-- What waits keeps within what a charge gives: each item, and each question.
+use Rattle.std.proofs.Common.{ℕ, ◌≤◌, Bool, None, [], ◌∷◌, ◌++◌, drop, arith}
+use Rattle.property_keys.specs.declared.keys.PropKey.{PropKey}
+use Rattle.property_keys.specs.declared.values.Value.{Value}
+use Rattle.property_keys.specs.declared.values.Value.TheVariants as value
+use Rattle.evaluator.specs.declared.items.AccessItem.{AccessItem}
+use Rattle.evaluator.specs.declared.items.AccessItem.TheVariants as access
+use Rattle.evaluator.specs.declared.items.Asked.{Asked}
+use Rattle.evaluator.specs.declared.items.Asked.TheVariants as asked
+use Rattle.evaluator.specs.declared.items.FlagAsked.{FlagAsked}
+use Rattle.evaluator.specs.declared.items.FlagAsked.TheVariants as flag_asked
+use Rattle.evaluator.specs.declared.items.Item.{Item}
+use Rattle.evaluator.specs.declared.items.Item.TheVariants as item
+use Rattle.evaluator.specs.declared.items.KeyAsked.{KeyAsked}
+use Rattle.evaluator.specs.declared.items.KeyAsked.TheVariants as key_asked
+use Rattle.evaluator.specs.declared.items.OperatorItem.{OperatorItem}
+use Rattle.evaluator.specs.declared.items.OperatorItem.TheVariants as operator
+use Rattle.evaluator.specs.declared.items.Purpose.{Purpose}
+use Rattle.evaluator.specs.declared.items.Purpose.TheVariants as purpose
+use Rattle.evaluator.specs.declared.items.Reading.{Reading}
+use Rattle.evaluator.specs.declared.items.Reading.TheVariants as reading
+use Rattle.evaluator.specs.declared.items.StatementItem.{StatementItem}
+use Rattle.evaluator.specs.declared.items.StatementItem.TheVariants as statement
+use Rattle.evaluator.specs.declared.items.ValueAsked.{ValueAsked}
+use Rattle.evaluator.specs.declared.items.ValueAsked.TheVariants as value_asked
+use Rattle.evaluator.specs.declared.references.Finish.TheVariants as finish
+use Rattle.evaluator.specs.declared.references.Invocation.TheVariants as invocation
+use Rattle.evaluator.specs.declared.references.Reference.{Reference}
+use Rattle.evaluator.specs.declared.references.Reference.TheVariants as reference
+use Rattle.evaluator.specs.Assignments.{compound_valued}
+use Rattle.evaluator.specs.Calls.{arguments_at}
+use Rattle.evaluator.specs.Contexts.{Context}
+use Rattle.evaluator.specs.Operators.{comma_at, right_valued}
+use Rattle.evaluator.specs.Plans.{access_valued, asked_program, ended, flag_answered, item_program, key_answered, operator_valued, purpose_program, reading_program, reading_valued, statement_item, value_answered}
+use Rattle.evaluator.specs.Statements.{declared_at}
+use Rattle.evaluator.proofs.AccessesWithin.{given-within, key_converted-within, key_valued-within, read_reference-within}
+use Rattle.evaluator.proofs.AssignmentsWithin.{assign_reference-within, compound_reference-within, compound_valued-within, update_converted-within, update_number-within, update_reference-within}
+use Rattle.evaluator.proofs.CallsWithin.{arguments-within, callee_reference-within}
+use Rattle.evaluator.proofs.OperatorsWithin.{add_primitives-within, apply-within, calculated-within, comma-within, compare-within, flag_given-within, joined-within, minus_converted-within, negated-within, not_value-within, right_number-within, right_primitive-within, right_text-within, right_valued-within, short_value-within, test_value-within, typeof_reference-within, typeof_value-within}
+use Rattle.evaluator.proofs.ReferencesWithin.{delete_reference-within, got_again-within, put_again-within, put_value-within, unless_refused-within}
+use Rattle.evaluator.proofs.StatementsWithin.{after_statement-within, declared_valued-within, finish_try-within, for_again-within, for_begun-within, for_stepped-within, for_valued-within, if_valued-within, last_ended-within, return_valued-within, throw_valued-within, tried_ended-within, while_again-within, while_valued-within}
+use Rattle.evaluator.proofs.WordsWithin.{On, Within, asked-within, done-within, evaluated-within, flag-within, key-within, value-within}
+
+purpose-within : (r b : ℕ) (here : Context) (p : Purpose) (ref : Reference) → 52 ≤ b → 200 ≤ r → Within r b (purpose_program here p ref)
+purpose-within r b here purpose.Read ref some enough = read_reference-within r b here ref (omega arith) (omega arith)
+purpose-within r b here (purpose.Call n) ref some enough = callee_reference-within r b here n ref (omega arith) (omega arith)
+purpose-within r b here purpose.Delete ref some enough = delete_reference-within r b here ref (omega arith)
+purpose-within r b here purpose.Typeof ref some enough = typeof_reference-within r b here ref (omega arith) (omega arith)
+purpose-within r b here (purpose.Assign v) ref some enough = assign_reference-within r b here v ref (omega arith) (omega arith)
+purpose-within r b here (purpose.Compound op v) ref some enough = compound_reference-within r b here op v ref (omega arith) (omega arith)
+purpose-within r b here (purpose.Update increment prefix) ref some enough = update_reference-within r b here increment prefix ref some (omega arith)
+
+reading-within : (r b : ℕ) (here : Context) (p : Reading) (v : Value) → 48 ≤ b → 200 ≤ r → Within r b (reading_valued here p v)
+reading-within r b here reading.Give v some enough = done-within _ _ _
+reading-within r b here (reading.Callee n this) v some enough = arguments-within r b here (invocation.Call v this) (arguments_at here n) [] (omega arith) (omega arith)
+reading-within r b here reading.Typeof v some enough = typeof_value-within r b v
+reading-within r b here (reading.Compound op x ref) v some enough =
+    evaluated-within r b here None x (compound_valued here op ref v) (omega arith) (compound_valued-within r r here op ref v (omega arith) (omega arith))
+reading-within r b here (reading.Update increment prefix ref) v some enough =
+    asked-within _ _ 35 _ _ (omega arith) (update_converted-within r 35 here increment prefix ref (omega arith) (omega arith))
+
+access-within : (r : ℕ) (here : Context) (i : AccessItem) (v : Value) → 200 ≤ r → Within r r (access_valued here i v)
+access-within r here (access.MemberBased k read write aim) v enough = purpose-within r r here aim (reference.Property v k read write) (omega arith) enough
+access-within r here (access.IndexBased k read write aim) v enough =
+    evaluated-within r r here None k _ (omega arith) (key_valued-within r r 52 v read write (purpose_program here aim) (omega arith) (λ ref. purpose-within r 52 here aim ref (omega arith) enough))
+access-within r here (access.KeyValued base read write aim) v enough =
+    asked-within _ _ 52 _ _ (omega arith) (key_converted-within r 52 base read write (purpose_program here aim) (λ ref. purpose-within r 52 here aim ref (omega arith) enough))
+
+operator-within : (r : ℕ) (here : Context) (i : OperatorItem) (v : Value) → 200 ≤ r → Within r r (operator_valued here i v)
+operator-within r here operator.DeleteValued v enough = done-within _ _ _
+operator-within r here operator.VoidValued v enough = done-within _ _ _
+operator-within r here operator.PlusValued v enough = asked-within _ _ 0 _ _ (omega arith) (given-within r 0)
+operator-within r here operator.MinusValued v enough = asked-within _ _ 0 _ _ (omega arith) (minus_converted-within r 0)
+operator-within r here operator.NotValued v enough = not_value-within r r v
+operator-within r here (operator.LeftValued op right) v enough =
+    evaluated-within r r here None right (right_valued here op v) (omega arith) (right_valued-within r r here op v (omega arith) (omega arith))
+operator-within r here (operator.RightValued op left) v enough = compare-within r r here op left v (omega arith) (omega arith)
+operator-within r here (operator.ShortValued op right) v enough = short_value-within r r here op right v (omega arith)
+operator-within r here (operator.TestValued first other) v enough = test_value-within r r here first other v (omega arith)
+operator-within r here (operator.CommaValued n next) v enough = comma-within r r here (drop next (comma_at here n)) v (omega arith) (omega arith)
+operator-within r here (operator.AssignValued ref) v enough = put_value-within r r here ref v v (omega arith) (omega arith)
+operator-within r here (operator.CompoundValued op ref left) v enough = apply-within r r here op (finish.Put ref) left v (omega arith) (omega arith)
+
+statement-within : (r : ℕ) (here : Context) (i : StatementItem) → 200 ≤ r → On r r (statement_item here i)
+statement-within r here (statement.AfterStatement list next) enough = after_statement-within r r here list next (omega arith)
+statement-within r here (statement.Declared n next) enough = declared_valued-within r r here (drop next (declared_at here n)) (omega arith) (omega arith)
+statement-within r here (statement.IfValued first other) enough = if_valued-within r r here first other (omega arith)
+statement-within r here (statement.WhileValued n body) enough = while_valued-within r r here n body (omega arith) (omega arith)
+statement-within r here (statement.WhileAgain n) enough = while_again-within r r here n (omega arith)
+statement-within r here (statement.ForBegun n) enough = for_begun-within r r here n (omega arith)
+statement-within r here (statement.ForValued n step body) enough = for_valued-within r r here n step body (omega arith) (omega arith)
+statement-within r here (statement.ForAgain n step) enough = for_again-within r r here n step (omega arith) (omega arith)
+statement-within r here (statement.ForStepped n) enough = for_stepped-within r r here n (omega arith)
+statement-within r here statement.ReturnValued enough = return_valued-within r r
+statement-within r here statement.ThrowValued enough = throw_valued-within r r
+statement-within r here (statement.TriedEnded n) enough = tried_ended-within r r here n (omega arith)
+statement-within r here (statement.CaughtEnded n) enough = finish_try-within r r here n (omega arith)
+statement-within r here (statement.LastEnded before) enough = last_ended-within r r (ended before)
+
+pub item-within : (r : ℕ) (here : Context) (i : Item) → 200 ≤ r → On r r (item_program here i)
+item-within r here (item.Read p) enough = λ c. value-within r r (reading_valued here p) c (λ v. reading-within r r here p v (omega arith) enough)
+item-within r here (item.Access i) enough = λ c. value-within r r (access_valued here i) c (λ v. access-within r here i v enough)
+item-within r here (item.Operator i) enough = λ c. value-within r r (operator_valued here i) c (λ v. operator-within r here i v enough)
+item-within r here (item.Statement i) enough = statement-within r here i enough
+item-within r here (item.Argument n next i given) enough = λ c. value-within r r _ c (λ v. arguments-within r r here i (drop next (arguments_at here n)) (given ++ v ∷ []) (omega arith) (omega arith))
+item-within r here (item.Constructor n) enough = λ c. value-within r r _ c (λ f. arguments-within r r here (invocation.Construct f) (arguments_at here n) [] (omega arith) (omega arith))
+
+-- ---- what waits for an answer
+
+value-answered : (r : ℕ) (here : Context) (i : ValueAsked) (v : Value) → 200 ≤ r → Within r r (value_answered here i v)
+value-answered r here (value_asked.Read p) v enough = reading-within r r here p v (omega arith) enough
+value-answered r here value_asked.MinusConverted v enough = negated-within r r v
+value-answered r here (value_asked.LeftPrimitive end right) v enough = asked-within _ _ 61 _ _ (omega arith) (right_primitive-within r 61 here end v (omega arith) (omega arith))
+value-answered r here (value_asked.RightPrimitive end left) v enough = add_primitives-within r r here end left v (omega arith) (omega arith)
+value-answered r here (value_asked.LeftText end right) v enough = asked-within _ _ 35 _ _ (omega arith) (right_text-within r 35 here end v (omega arith) (omega arith))
+value-answered r here (value_asked.RightText end left) v enough = joined-within r r here end left v (omega arith) (omega arith)
+value-answered r here (value_asked.LeftNumber op end right) v enough = asked-within _ _ 35 _ _ (omega arith) (right_number-within r 35 here op end v (omega arith) (omega arith))
+value-answered r here (value_asked.RightNumber op end left) v enough = calculated-within r r here op end left v (omega arith) (omega arith)
+value-answered r here (value_asked.UpdateConverted increment prefix ref) v enough = update_number-within r r here increment prefix ref v (omega arith) (omega arith)
+
+flag-answered : (r : ℕ) (here : Context) (i : FlagAsked) (b : Bool) → 200 ≤ r → Within r r (flag_answered here i b)
+flag-answered r here (flag_asked.Looked name k aim) b enough = purpose-within r r here aim (reference.Global name k b) (omega arith) enough
+flag-answered r here (flag_asked.LookedAgain name k p) b enough =
+    got_again-within r r 48 here name k (reading_program here p) b (omega arith) (λ c. value-within r 48 (reading_valued here p) c (λ v. reading-within r 48 here p v (omega arith) enough))
+flag-answered r here (flag_asked.PutLooked name k v result) b enough = put_again-within r r here name k v result b (omega arith)
+flag-answered r here (flag_asked.PutAnswered result) b enough = unless_refused-within r r here b result
+flag-answered r here flag_asked.DeleteAnswered b enough = unless_refused-within r r here b (value.Bool b)
+flag-answered r here flag_asked.FlagGiven b enough = done-within _ _ _
+flag-answered r here flag_asked.FlagDenied b enough = done-within _ _ _
+
+key-answered : (r : ℕ) (here : Context) (i : KeyAsked) (k : PropKey) → 200 ≤ r → Within r r (key_answered here i k)
+key-answered r here (key_asked.KeyConverted base read write aim) k enough = purpose-within r r here aim (reference.Property base k read write) (omega arith) enough
+key-answered r here (key_asked.InKeyed o) k enough = asked-within _ _ 0 _ _ (omega arith) (flag_given-within r 0)
+
+pub answered-within : (r : ℕ) (here : Context) (i : Asked) → 200 ≤ r → On r r (asked_program here i)
+answered-within r here (asked.Value i) enough = λ c. value-within r r (value_answered here i) c (λ v. value-answered r here i v enough)
+answered-within r here (asked.Flag i) enough = λ c. flag-within r r (flag_answered here i) c (λ b. flag-answered r here i b enough)
+answered-within r here (asked.Key i) enough = λ c. key-within r r (key_answered here i) c (λ k. key-answered r here i k enough)
