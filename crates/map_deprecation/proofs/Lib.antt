@@ -1,3 +1,4 @@
+pub mod Along
 pub mod Changes
 pub mod ComeBack
 pub mod Falling

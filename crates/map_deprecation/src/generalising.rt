@@ -1,6 +1,7 @@
 //! What becomes of a tree where a field meets a value that it does not take, and of a map that died by it.
 
 ghost use Rattle.std.specs.Prelude.{◌≡◌, ◌↔◌, IfOk, IsTrue, OnErr, OnOk};
+ghost use Rattle.property_keys.specs.Counts.{TakesAtMost, counted};
 ghost use Rattle.map_store.specs.declared.entries.Kind.TheVariants as kind;
 ghost use Rattle.map_store.specs.Views.{HasEntry, IsKnown, KeepsEntries, entry_at, map_at};
 ghost use Rattle.transition_tree.specs.Rows.{IsAsBefore};
@@ -21,8 +22,8 @@ struct Giver {
 }
 
 /// Joins a class into the representation that is kept for the step which gave an entry, a stored one, and kills each
-/// live map whose path goes through that step. Nothing changes where that representation takes the class. After
-/// `NoMemory` all is as before.
+/// live map whose path goes through that step, in two steps at most. Nothing changes where that representation takes the
+/// class. After `NoMemory` all is as before.
 pub fn generalise<L: Ledger>(
     tree: &mut Tree,
     maps: &mut Maps,
@@ -42,6 +43,7 @@ pub fn generalise<L: Ledger>(
     ensures maps { OnErr result (maps.new ≡ maps.old) }
     ensures together { BelongTogether tree.new maps.new }
     ensures entries { KeepsEntries maps.old maps.new }
+    ensures steps { TakesAtMost 2 (L.ticks steps.old) (L.ticks steps.new) }
 {
     let giver = giver_of(tree, maps, map, i, steps);
     let kept = tree.kept(giver.parent, &giver.step);
@@ -55,12 +57,13 @@ pub fn generalise<L: Ledger>(
     Ok(())
 }
 
-/// What gave an entry: the last step of the map's path that names its key.
+/// What gave an entry, in one step: the last step of the map's path that names its key.
 fn giver_of<L: Ledger>(tree: &Tree, maps: &Maps, map: MapId, i: u32, steps: &mut Steps<L>) -> Giver
     requires together { BelongTogether tree.now maps.now }
     requires known { IsKnown maps.now map }
     requires within { HasEntry maps.now map i }
-    ensures { IsGiver tree.now maps.now map i result.map result.parent result.step }
+    ensures giver { IsGiver tree.now maps.now map i result.map result.parent result.step }
+    ensures steps { L.ticks steps.new ≡ counted (L.ticks steps.old) }
 {
     let key = maps.entry(map, i, steps).key;
     let mut at = map;

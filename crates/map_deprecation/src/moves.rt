@@ -1,6 +1,7 @@
 //! The fields whose representations change when an object is moved to another map.
 
 ghost use Rattle.std.specs.Prelude.{◌≡◌, ◌<◌, ◌++◌, ◌∷◌, ◌*◌, [], length, IfOk, OnOk, OnErr, slice_index_or};
+ghost use Rattle.property_keys.specs.Counts.{TakesAtMost};
 ghost use Rattle.map_store.specs.Views.{IsKnown, map_at};
 ghost use Rattle.map_store.specs.Keys.{steps_on};
 ghost use Rattle.map_deprecation.specs.Moves.{AreOfOnePath, moves_of, change_of};
@@ -67,7 +68,8 @@ impl Moves {
     }
 }
 
-/// What changes in an object that goes from one map to another of the same path, in two steps for each entry.
+/// What changes in an object that goes from one map to another of the same path, in two steps for each entry, and in no
+/// more where the answer is `NoMemory`.
 pub fn plan<L: Ledger>(
     alloc: Global,
     maps: &Maps,
@@ -80,6 +82,7 @@ pub fn plan<L: Ledger>(
     requires path { AreOfOnePath (map_at maps.now from).entries (map_at maps.now to).entries }
     ensures moves { IfOk result (λ moves. moves ≡ moves_of (map_at maps.now from).entries (map_at maps.now to).entries) }
     ensures steps { OnOk result (L.ticks steps.new ≡ steps_on (2 * length (map_at maps.now from).entries) (L.ticks steps.old)) }
+    ensures err_steps { OnErr result (TakesAtMost (2 * length (map_at maps.now from).entries) (L.ticks steps.old) (L.ticks steps.new)) }
 {
     let mut moves = Moves::new(alloc);
     for i in 0..maps.count(from) {

@@ -16,7 +16,7 @@ use rows::ROWS;
 use std::test::Fail;
 
 /// A whole number, what is one class of it, and its word in three kinds of field. (2^53 - 1 is 9007199254740991.)
-const NUMBERS: [(i64, Class, Representation, u64); 13] = [
+const NUMBERS: [(i64, Class, Representation, u64); 19] = [
     (0, Class::Smi, Smi, 0),
     (-1, Class::Smi, Smi, 4_294_967_295),
     (2_147_483_647, Class::Smi, Smi, 2_147_483_647),
@@ -40,6 +40,13 @@ const NUMBERS: [(i64, Class, Representation, u64); 13] = [
         144_115_188_075_855_859,
     ),
     (-9_007_199_254_740_991, Class::Whole, Tagged, 3),
+    // The edges of the small numbers in wider fields: the number plus 2^53 - 1, and eight times that and 3.
+    (2_147_483_647, Class::Smi, Whole, 9_007_201_402_224_638),
+    (-2_147_483_648, Class::Smi, Whole, 9_007_197_107_257_343),
+    (2_147_483_647, Class::Smi, Tagged, 72_057_611_217_797_107),
+    (-2_147_483_648, Class::Smi, Tagged, 72_057_576_858_058_747),
+    (2_147_483_648, Class::Whole, Tagged, 72_057_611_217_797_115),
+    (-2_147_483_649, Class::Whole, Tagged, 72_057_576_858_058_739),
 ];
 
 /// Whether a number that its field takes has this word, and comes back from it.
@@ -66,7 +73,7 @@ fn numbers_at_the_edges_of_the_classes(rt: HostRuntime) -> Result<(), Fail> {
 }
 
 /// Other values, with their words.
-const OTHERS: [(Value, Class, Representation, u64); 8] = [
+const OTHERS: [(Value, Class, Representation, u64); 16] = [
     (Value::Undefined, Class::Tagged, Tagged, 0),
     (Value::Null, Class::Tagged, Tagged, 1),
     (Value::Bool(false), Class::Tagged, Tagged, 2),
@@ -80,6 +87,30 @@ const OTHERS: [(Value, Class, Representation, u64); 8] = [
     ),
     (Value::Object(ObjectId(3)), Class::Ref, Ref, 3),
     (Value::Object(ObjectId(3)), Class::Ref, Tagged, 30),
+    // The first and the last number of each kind: eight times 4294967295 is 34359738360.
+    (Value::Text(TextId(0)), Class::Tagged, Tagged, 4),
+    (
+        Value::Text(TextId(4_294_967_295)),
+        Class::Tagged,
+        Tagged,
+        34_359_738_364,
+    ),
+    (Value::Symbol(SymbolId(0)), Class::Tagged, Tagged, 5),
+    (Value::Object(ObjectId(0)), Class::Ref, Ref, 0),
+    (Value::Object(ObjectId(0)), Class::Ref, Tagged, 6),
+    (
+        Value::Object(ObjectId(4_294_967_295)),
+        Class::Ref,
+        Ref,
+        4_294_967_295,
+    ),
+    (
+        Value::Object(ObjectId(4_294_967_295)),
+        Class::Ref,
+        Tagged,
+        34_359_738_366,
+    ),
+    (Value::Text(TextId(1)), Class::Tagged, Tagged, 12),
 ];
 
 fn is_other_written(value: Value, representation: Representation, word: u64) -> bool {

@@ -1,6 +1,7 @@
 //! The map that stands for a deprecated one.
 
-ghost use Rattle.std.specs.Prelude.{◌≡◌, true, IfOk};
+ghost use Rattle.std.specs.Prelude.{◌≡◌, ◌+◌, ◌*◌, length, true, IfOk};
+ghost use Rattle.property_keys.specs.Counts.{TakesAtMost};
 ghost use Rattle.map_store.specs.Views.{IsKnown, KeepsEntries, map_at};
 ghost use Rattle.transition_tree.specs.Paths.{Fits};
 ghost use Rattle.transition_tree.specs.Rows.{HadMap, after, row_of};
@@ -13,7 +14,8 @@ use property_keys::{Ledger, NoMemory, Steps};
 use transition_tree::{Path, Step, Tree};
 
 /// The live map of a map's row, made where there is none, after each missing map of a front of its path, the shortest
-/// first. Each is made by the representation that is kept for its row. After `NoMemory` some of them may be there.
+/// first. Each is made by the representation that is kept for its row. After `NoMemory` some of them may be there. A path
+/// of n steps takes n * (n + 2) counted steps at most.
 pub fn updated<L: Ledger>(
     tree: &mut Tree,
     maps: &mut Maps,
@@ -27,6 +29,9 @@ pub fn updated<L: Ledger>(
     ensures grows { Grows tree.old tree.new maps.old maps.new (row_of tree.old map) }
     ensures together { BelongTogether tree.new maps.new }
     ensures entries { KeepsEntries maps.old maps.new }
+    ensures steps { let row = row_of tree.old map in
+        let count = length row.path in
+        TakesAtMost (count * (count + 2)) (L.ticks steps.old) (L.ticks steps.new) }
 {
     let path = tree.path(map)?;
     let origin = maps.origin(map);
@@ -51,6 +56,7 @@ fn made_along<L: Ledger>(
     ensures live { IfOk result (IsLiveAt tree.new maps.new (row_of tree.old map)) }
     ensures grows { Grows tree.old tree.new maps.old maps.new (row_of tree.old map) }
     ensures together { BelongTogether tree.new maps.new }
+    ensures steps { let count = length path.now in TakesAtMost (count * (count + 2)) (L.ticks steps.old) (L.ticks steps.new) }
 {
     let mut at = root;
     for i in 0..path.len() {
@@ -75,6 +81,7 @@ fn next<L: Ledger>(
     ensures live { IfOk result (IsLiveAt tree.new maps.new (after (row_of tree.old map) step)) }
     ensures grows { Grows tree.old tree.new maps.old maps.new (after (row_of tree.old map) step) }
     ensures together { BelongTogether tree.new maps.new }
+    ensures steps { let m = map_at maps.old map in TakesAtMost (length m.entries + 2) (L.ticks steps.old) (L.ticks steps.new) }
 {
     match tree.child(maps, map, &step, steps) {
         Some(child) => Ok(child),

@@ -28,6 +28,7 @@ redefined before after parent child key kind attributes r i place at here number
     let made : MapView = with_entry m i (entry_of key kind attributes r place) (length before.lengths) in
     let last : map_at after child ≡ made = ap (λ (ms : MapsView). map_at ms child) is ∙ at_last before.maps made child.0 number in
     record {
+      all = (i, at, is ∙ ap (λ (p : ℕ). replaced before parent i (entry_of key kind attributes r p)) here);
       number = number;
       maps = ap (λ (ms : MapsView). ms.maps) is ∙ (λ t. before.maps ++ sym last t ∷ []);
       follows = record {

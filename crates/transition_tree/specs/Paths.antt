@@ -10,7 +10,7 @@ use Rattle.map_store.specs.declared.entries.Kind.TheVariants as kind
 use Rattle.map_store.specs.declared.entries.Representation.{Representation}
 use Rattle.map_store.specs.declared.entries.Representation.TheVariants as representation
 use Rattle.map_store.specs.Keys.{IsPlace, LacksKey}
-use Rattle.map_store.specs.Views.{MapView, MapsView, entry_at, map_at}
+use Rattle.map_store.specs.Views.{MapView, MapsView, closed_off, entry_at, extended, map_at, replaced}
 use Rattle.transition_tree.specs.declared.paths.Step.{Step}
 use Rattle.transition_tree.specs.declared.paths.Step.TheVariants as step
 
@@ -43,8 +43,18 @@ pub record Follows (m : MapView) (s : Step) (r : Representation) (child : MapVie
   pub extensible : child.extensible ≡ stays_extensible s m.extensible
   pub entries : IsStepped m.entries s r child.entries
 
+-- what a step makes of the maps and their arrays: an Add shares the map's array where the map owns its end, and a Close always does
+abbrev pub IsMadeBy : MapsView → MapId → Step → Representation → MapsView → Type 0
+IsMadeBy before map (step.Add key kind attributes) r now =
+    now ≡ extended before map (entry_of key kind attributes r (length (map_at before map).entries))
+IsMadeBy before map (step.Redefine key kind attributes) r now =
+    (i : ℕ) × IsPlace (map_at before map).entries key i
+    × (now ≡ replaced before map i (entry_of key kind attributes r (entry_at (map_at before map).entries i).place))
+IsMadeBy before map step.Close r now = now ≡ closed_off before map
+
 -- one map more, made from a map by a step; the maps that were there stay
 pub record MakesChild (before after : MapsView) (parent : MapId) (s : Step) (r : Representation) (child : MapId) : Type 0 where
+  pub all : IsMadeBy before parent s r after
   pub number : child.0 ≡ length before.maps
   pub maps : after.maps ≡ before.maps ++ map_at after child ∷ []
   pub follows : Follows (map_at before parent) s r (map_at after child)

@@ -3,6 +3,7 @@
 
 mod edges;
 mod following;
+pub mod laws;
 mod paths;
 mod places;
 mod table;

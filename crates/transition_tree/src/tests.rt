@@ -8,7 +8,7 @@ use crate::*;
 use forest::Forest;
 use map_store::{Kind, MapId, Maps, OriginId, Representation};
 use property_keys::{Attributes, Counting, NoMemory, PropKey, Steps};
-use rows::ROWS;
+use rows::{Call, ROWS, Seen};
 use std::test::Fail;
 
 #[test]
@@ -74,7 +74,7 @@ fn added(maps: &mut Maps, count: u32) -> Result<MapId, Fail> {
     Ok(last)
 }
 
-/// A path of 256 steps that add, and one that redefines the first key: it keeps its place, on an array of its own.
+/// 256 steps that add, and one that redefines the last key: it keeps its place, on an array of its own.
 #[test]
 fn maps_follow_by_steps(rt: HostRuntime) -> Result<(), Fail> {
     let mut maps = Maps::new(rt.alloc());
@@ -99,16 +99,21 @@ fn maps_follow_by_steps(rt: HostRuntime) -> Result<(), Fail> {
     Ok(())
 }
 
-/// The number of the first row of which something else is seen. After `NoMemory` no map was made, and the call is then
-/// had at the second try: `rt try --test --fail-alloc N` refuses the N-th growth.
+/// What is seen of a call. After `NoMemory` no map was made, and the call is then had at the second try:
+/// `rt try --test --fail-alloc N` refuses the N-th growth.
+fn seen_at_last(forest: &mut Forest, call: Call) -> Result<Seen, NoMemory> {
+    let before = forest.len();
+    match forest.seen(call) {
+        Ok(seen) => Ok(seen),
+        Err(_) if forest.len() != before => Ok(Seen::NotMeant),
+        Err(_) => forest.seen(call),
+    }
+}
+
+/// The number of the first row of which something else is seen.
 fn first_wrong(forest: &mut Forest) -> Result<Option<usize>, NoMemory> {
     for (number, (call, seen)) in ROWS.iter().enumerate() {
-        let before = forest.len();
-        let is_right = match forest.seen(*call) {
-            Ok(answer) => answer == *seen,
-            Err(_) => forest.len() == before && forest.seen(*call)? == *seen,
-        };
-        if !is_right {
+        if seen_at_last(forest, *call)? != *seen {
             return Ok(Some(number));
         }
     }
@@ -120,5 +125,30 @@ fn a_branch_dies_and_grows_anew(rt: HostRuntime) -> Result<(), Fail> {
     let mut forest = Forest::new(rt.alloc());
     assert_eq!(rt; first_wrong(&mut forest)?, None);
     assert_eq!(rt; forest.len(), 11);
+    Ok(())
+}
+
+/// The number of the first key whose step gives another map than the next one.
+fn first_not_next(forest: &mut Forest, count: u32) -> Result<Option<u32>, NoMemory> {
+    for key in 0..count {
+        let next = Seen::Map(Some(key.saturating_add(1)));
+        if seen_at_last(forest, Call::Grow(key, key, true))? != next {
+            return Ok(Some(key));
+        }
+    }
+    Ok(None)
+}
+
+/// A walk along a path of 256 steps takes a counted step for each map on it, the root's and the end's too. Where map 255 is
+/// dead it ends with the step that does not find it.
+#[test]
+fn a_path_of_256_steps(rt: HostRuntime) -> Result<(), Fail> {
+    let mut forest = Forest::new(rt.alloc());
+    assert!(rt; seen_at_last(&mut forest, Call::Root(0))? == Seen::Map(Some(0)));
+    assert_eq!(rt; first_not_next(&mut forest, 256)?, None);
+    assert!(rt; seen_at_last(&mut forest, Call::Path(256))? == Seen::Steps(256));
+    assert!(rt; seen_at_last(&mut forest, Call::WalkTo(0, 256))? == Seen::Walked(Some(256), 257));
+    assert!(rt; seen_at_last(&mut forest, Call::Drop(255))? == Seen::Done);
+    assert!(rt; seen_at_last(&mut forest, Call::WalkTo(0, 256))? == Seen::Walked(None, 256));
     Ok(())
 }

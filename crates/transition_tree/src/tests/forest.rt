@@ -59,6 +59,7 @@ impl Forest {
             Call::Close(map) => self.closed(MapId(map)),
             Call::Keep(map, key, kept) => self.keeps(MapId(map), key, kept),
             Call::Walk(map, keys) => self.walked(MapId(map), keys),
+            Call::WalkTo(root, map) => self.walked_to(MapId(root), MapId(map)),
             Call::Path(map) => self.steps_to(MapId(map)),
             Call::Drop(map) => Ok(self.dropped(MapId(map))),
             other => Ok(self.read(other)),
@@ -131,6 +132,16 @@ impl Forest {
         let mut steps = Steps::new(Counting::new());
         let end = self.tree.walk(&self.maps, map, &path, &mut steps);
         Ok(Seen::Map(end.map(|map| map.0)))
+    }
+
+    fn walked_to(&self, root: MapId, map: MapId) -> Result<Seen, NoMemory> {
+        if !self.is_known(root) || !self.is_known(map) {
+            return Ok(Seen::NotMeant);
+        }
+        let path = self.tree.path(map)?;
+        let mut steps = Steps::new(Counting::new());
+        let end = self.tree.walk(&self.maps, root, &path, &mut steps);
+        Ok(Seen::Walked(end.map(|map| map.0), steps.ledger().ticks()))
     }
 
     fn steps_to(&self, map: MapId) -> Result<Seen, NoMemory> {

@@ -13,6 +13,8 @@ pub(crate) enum Call {
     Close(u32),
     Current(u32),
     Walk(u32, &'static [u32]),
+    /// Walks from the first map along the path of the second.
+    WalkTo(u32, u32),
     Path(u32),
     Parent(u32),
     Live(u32),
@@ -25,6 +27,8 @@ pub(crate) enum Call {
 pub(crate) enum Seen {
     Done,
     Map(Option<u32>),
+    /// A map, and the counted steps of the walk to it.
+    Walked(Option<u32>, u64),
     Steps(usize),
     Lives(bool),
     Is(Representation),

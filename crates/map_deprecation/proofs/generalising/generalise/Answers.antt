@@ -16,11 +16,11 @@ returns-in-Some-clause-ok g c =
     let maps = c.args.maps.now in
     let kept = c.keep.new.self in
     let row : Row = after (row_of tree giver.result.parent) giver.result.step in
-    let same : row_of kept giver.result.map ≡ row = ap (λ (xs : List Standing). (standing_at xs giver.result.map.0).row) c.keep.ensures.maps ∙ giver.ensures.row in
+    let same : row_of kept giver.result.map ≡ row = ap (λ (xs : List Standing). (standing_at xs giver.result.map.0).row) c.keep.ensures.maps ∙ giver.ensures.giver.row in
     let live : IsLiveAt kept maps row c.in-Some.live = subst (λ (r : Row). IsLiveAt kept maps r c.in-Some.live) same c.in-Some.ensures.current in
     let together : BelongTogether kept maps = together-same tree kept maps c.keep.ensures.maps c.requires.together in
     subst (λ (t : TreeView). Generalises tree t maps c.drop_branch.new.maps c.args.map (entry_at (map_at maps c.args.map).entries c.args.i).key c.args.class) (sym c.drop_branch.ensures.tree)
-    (joins-it tree maps c.args.map c.args.i c.args.class giver.result.map giver.result.parent giver.result.step giver.ensures c.kept-kept.result c.kept-kept.ensures.value kept c.drop_branch.new.maps c.join.result
+    (joins-it tree maps c.args.map c.args.i c.args.class giver.result.map giver.result.parent giver.result.step giver.ensures.giver c.kept-kept.result c.kept-kept.ensures.value kept c.drop_branch.new.maps c.join.result
     (sym c.takes.ensures ∙ c.if-takes.false) c.join.ensures c.keep.ensures.maps c.in_ok-keep.ensures.ok
     (branch-falls kept maps row together c.drop_branch.new.maps c.in-Some.live live c.drop_branch.ensures.maps))
 
@@ -31,9 +31,9 @@ returns-in_default-clause-ok g c =
     let maps = c.args.maps.now in
     let kept = c.keep.new.self in
     let row : Row = after (row_of tree giver.result.parent) giver.result.step in
-    let same : row_of kept giver.result.map ≡ row = ap (λ (xs : List Standing). (standing_at xs giver.result.map.0).row) c.keep.ensures.maps ∙ giver.ensures.row in
+    let same : row_of kept giver.result.map ≡ row = ap (λ (xs : List Standing). (standing_at xs giver.result.map.0).row) c.keep.ensures.maps ∙ giver.ensures.giver.row in
     let lacks : LacksLive kept maps row = subst (λ (r : Row). LacksLive kept maps r) same c.in_default.ensures.current in
     let together : BelongTogether kept maps = together-same tree kept maps c.keep.ensures.maps c.requires.together in
-    joins-it tree maps c.args.map c.args.i c.args.class giver.result.map giver.result.parent giver.result.step giver.ensures c.kept-kept.result c.kept-kept.ensures.value kept maps c.join.result
+    joins-it tree maps c.args.map c.args.i c.args.class giver.result.map giver.result.parent giver.result.step giver.ensures.giver c.kept-kept.result c.kept-kept.ensures.value kept maps c.join.result
     (sym c.takes.ensures ∙ c.if-takes.false) c.join.ensures c.keep.ensures.maps c.in_ok-keep.ensures.ok
     (nothing-falls kept maps row together lacks)

@@ -5,8 +5,8 @@ use Rattle.map_deprecation.specs.Generalising.{Names}
 use Rattle.map_deprecation.proofs.Givers.{goes-back, is-giver}
 use Rattle.map_deprecation.proofs.generalising.giver_of.Goals as goal
 
-pub returns-then-is_named : goal.returns-then-is_named
-returns-then-is_named g c =
+pub returns-then-is_named-clause-giver : goal.returns-then-is_named-clause-giver
+returns-then-is_named-clause-giver g c =
     is-giver c.args.tree.now c.args.maps.now c.requires.together c.args.map c.loop-parent.at c.in-Some.parent c.in-Some.step c.args.i c.loop-parent.invariant c.in-Some.ensures
     (subst (λ (e : Entry). Names c.in-Some.step e.key) c.entry-key.ensures.value (c.is_named.ensures.0 c.if-is_named.true))
 

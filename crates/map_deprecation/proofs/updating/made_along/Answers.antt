@@ -1,9 +1,10 @@
 use Rattle.std.proofs.Common.{◌≡◌, ◌+◌, ◌<◌, List, length, get_or, take, ap, sym, subst, arith}
-use Rattle.map_store.specs.Views.{IsKnown}
+use Rattle.map_store.specs.Views.{IsKnown, map_at}
 use Rattle.transition_tree.specs.declared.paths.Step.{Step}
 use Rattle.transition_tree.specs.Rows.{Row, Standing, onward, row_of}
 use Rattle.transition_tree.specs.Together.{IsLiveAt}
 use Rattle.map_deprecation.specs.Updating.{root_of}
+use Rattle.map_deprecation.proofs.Along.{all-steps, front-few, more-steps}
 use Rattle.map_deprecation.proofs.Growing.{grows-then, next-fits, next-grows, next-had, next-live}
 use Rattle.map_deprecation.proofs.updating.made_along.Goals as goal
 
@@ -72,4 +73,19 @@ loop-i-preserved g c =
           (next-grows tree maps together row c.args.map known stands c.loop-i.i step lt is c.next.new.tree c.next.new.maps c.loop-i.at here.here c.in_ok-at.ensures.grows);
       here = subst (λ (p : List Step). IsLiveAt c.next.new.tree c.next.new.maps (onward (root_of row) (take (c.loop-i.i + 1) p)) c.in_ok-at.at) (sym c.requires.path)
           (next-live tree maps together row c.args.map known stands c.loop-i.i step lt is c.next.new.tree c.next.new.maps c.loop-i.at c.in_ok-at.at here.here c.in_ok-at.ensures.live);
+      later = let round = c.next.ensures.steps.later in let before = c.loop-i.invariant.later in omega arith;
+      bound = more-steps c.loop-i.i (length c.args.path.now) _ _ _ (length (map_at maps c.loop-i.at).entries) c.loop-i.invariant.bound c.next.ensures.steps.bound
+          (front-few tree maps row c.args.path.now c.loop-i.i c.loop-i.at together c.loop-i.invariant.here);
+    }
+
+pub returns-in_err-at-clause-steps : goal.returns-in_err-at-clause-steps
+returns-in_err-at-clause-steps g c =
+    let n = length c.args.path.now in
+    let tree = c.loop-i.tree in
+    let maps = c.loop-i.maps in
+    record {
+      later = let round = c.next.ensures.steps.later in let before = c.loop-i.invariant.later in omega arith;
+      bound = all-steps (c.loop-i.i + 1) n _ _ (omega (arith, c.loop-i-test.true, c.len-i-end.ensures))
+          (more-steps c.loop-i.i n _ _ _ (length (map_at maps c.loop-i.at).entries) c.loop-i.invariant.bound c.next.ensures.steps.bound
+          (front-few tree maps (row_of c.args.tree.now c.args.map) c.args.path.now c.loop-i.i c.loop-i.at c.loop-i.invariant.together c.loop-i.invariant.here));
     }
