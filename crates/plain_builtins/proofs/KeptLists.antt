@@ -50,7 +50,7 @@ use Rattle.plain_builtins.specs.declared.words.Collected.TheVariants as collecte
 use Rattle.plain_builtins.proofs.KeptConversions.{text-key, whole-short}
 use Rattle.plain_builtins.proofs.KeptInstances.{object-known}
 
-all-last : {X : Type 0} (P : X → Type 0) (xs : List X) (x : X) → AllByRecursion P xs → P x → AllByRecursion P (xs ++ x ∷ [])
+pub all-last : {X : Type 0} (P : X → Type 0) (xs : List X) (x : X) → AllByRecursion P xs → P x → AllByRecursion P (xs ++ x ∷ [])
 all-last P [] x h k = (k, tt)
 all-last P (y ∷ xs) x h k = (h.0, all-last P xs x h.1 k)
 

@@ -1,9 +1,12 @@
+pub mod Indices
 pub mod KeptComparisons
 pub mod KeptConversions
 pub mod KeptInstances
 pub mod KeptLists
 pub mod KeptPlain
 pub mod KeptWanted
+pub mod OperandCounts
 pub mod Orders
 pub mod PlainWithin
+pub mod Rounds
 pub mod RoundsEnd

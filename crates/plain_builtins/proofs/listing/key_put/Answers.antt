@@ -1,0 +1,14 @@
+use Rattle.std.proofs.Common.{ap, sym, subst}
+use Rattle.std.specs.List.{AllByRecursion}
+use Rattle.es_model.specs.Known.{IsKnownKey}
+use Rattle.plain_builtins.specs.declared.words.Collected.TheVariants as collected
+use Rattle.plain_builtins.proofs.KeptLists.{all-last}
+use Rattle.plain_builtins.proofs.Rounds.{same-collected}
+use Rattle.plain_builtins.proofs.listing.key_put.Goals as goal
+
+pub returns-clause-stops : goal.returns-clause-stops
+returns-clause-stops c = same-collected _ _ c.args.left c.args.length c.args.object (collected.Keys c.push.new.self) _ _ (ap (λ ks. collected.Keys ks) c.in_ok-push.ensures.ok) c.next_element.ensures.stops
+
+pub returns-clause-named : goal.returns-clause-named
+returns-clause-named c = λ w o ks k.
+    c.next_element.ensures.named w o (subst (AllByRecursion (IsKnownKey w.lists)) (sym c.in_ok-push.ensures.ok) (all-last (IsKnownKey w.lists) c.args.keys c.args.key ks k))
