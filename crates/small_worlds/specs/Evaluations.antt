@@ -566,7 +566,7 @@ OrStops = comes usual (shortly short_operator.Or 1 6) 8 ≡ Ended (gives (whole 
 abbrev pub CoalesceGoesOn : Type 0
 CoalesceGoesOn = comes usual (shortly short_operator.Coalesce 4 1) 8 ≡ Ended (gives (whole 5)) (scene (shortly short_operator.Coalesce 4 1) 17 cells []) 2
 
--- z ? d : n
+-- the conditional operator: z is looked at, then d or n
 abbrev pub a_choice : List Node
 a_choice = with_leaves (node.Operator (operator.Conditional (the 4) (the 6) (the 1)) ∷ [])
 
