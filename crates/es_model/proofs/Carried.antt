@@ -77,7 +77,7 @@ model-grows programs = model-carried programs (λ w v. Grows w.lists v.lists) li
 
 -- ---- the script stays
 
-script-carried : IsCarried (λ w v. v.script ≡ w.script)
+pub script-carried : IsCarried (λ w v. v.script ≡ w.script)
 script-carried = record {
   none = λ w. refl;
   then = λ a b c p q. q ∙ p;

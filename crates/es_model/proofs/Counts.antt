@@ -130,6 +130,9 @@ serve-counts programs within first script (suc d) n t w same =
     task-counts script (serve_by programs d) (serve-script programs d) (serve-counts programs within first script d) (charges t) (programs w.script t) (weight t) n w same (first w.script t)
     (subst (λ s. IsWithin (renewed s) (weight t) (programs w.script t)) same (within w.script t))
 
+pub model-counts : (programs : Programs) → AreWithin programs → ChargeFirst programs → (script : Tree) → Counts script (model_by programs)
+model-counts programs within first script n t w same = serve-counts programs within first script (suc (depth_for t w)) n t w same
+
 pub model-thrifty : (programs : Programs) → AreWithin programs → ChargeFirst programs → IsThrifty (model_by programs)
 model-thrifty programs within first n t w =
     let e = serve-counts programs within first w.script (suc (depth_for t w)) n t w refl in let low = weight-below w.script t in omega arith

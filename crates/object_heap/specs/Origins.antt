@@ -1,6 +1,6 @@
 -- The origins of a heap: for each number what makes its objects, what that is in a script, and how many fields its objects begin with.
 use Rattle.std.specs.Prelude.{ℕ, suc, ◌+◌, min, max, Bool, true, false, ◌&&◌, if◌then◌else◌}
-use Rattle.std.specs.Prelude.{Option, Some, None, List, [], ◌∷◌, nat_eq, slice_get, slice_index_or}
+use Rattle.std.specs.Prelude.{◌≡◌, Some, List, [], ◌∷◌, slice_get, slice_index_or}
 use Rattle.map_store.specs.declared.OriginId.{OriginId}
 use Rattle.es_source.specs.Places.{same_place}
 use Rattle.es_source.specs.declared.place.Place.{Place}
@@ -72,21 +72,10 @@ literal_places definitions = min (max definitions 4) 32
 abbrev pub constructor_places : ℕ → ℕ
 constructor_places this_names = min (this_names + 8) 32
 
-abbrev pub definitions_in : Option LiteralFacts → ℕ
-definitions_in None = 0
-definitions_in (Some literal) = literal.definitions
-
-abbrev pub this_names_in : Option FunctionFacts → ℕ
-this_names_in None = 0
-this_names_in (Some function) = function.this_names
-
--- the places with which an origin of a script begins
-abbrev pub first_places : Tree → Origin → ℕ
-first_places script OfPlain = 4
-first_places script OfFunction = 4
-first_places script OfArray = 4
-first_places script OfArguments = 4
-first_places script OfWrapper = 4
-first_places script OfError = 4
-first_places script (OfLiteral literal) = literal_places (definitions_in (slice_get script.literals literal.0))
-first_places script (OfConstructor function) = constructor_places (this_names_in (slice_get script.functions function.0))
+-- the places with which an origin of a script begins: those of a literal that begins at its place, or of a function, of which a script has one at most
+abbrev pub BeginsWith : Tree → OriginKind → ℕ → Type 0
+BeginsWith script (origin.Literal place) places =
+    (number : ℕ) × (literal : LiteralFacts) × (slice_get script.literals number ≡ Some literal) × (literal.place ≡ place) × (places ≡ literal_places literal.definitions)
+BeginsWith script (origin.Constructor place) places =
+    (number : ℕ) × (function : FunctionFacts) × (slice_get script.functions number ≡ Some function) × (function.place ≡ place) × (places ≡ constructor_places function.this_names)
+BeginsWith script other places = places ≡ 4

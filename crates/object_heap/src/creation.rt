@@ -3,7 +3,7 @@
 ghost use Rattle.std.specs.Prelude.{◌≡◌, IfOk, OnErr, OnOk};
 ghost use Rattle.es_model.specs.Changes.{Making, Revoking, Unmapping, changed};
 ghost use Rattle.es_model.specs.World.{World, kind as kind_of, new_object};
-ghost use Rattle.object_heap.specs.Origins.{constructed_by, first_places, origin_at, origin_in, origin_number};
+ghost use Rattle.object_heap.specs.Origins.{BeginsWith, constructed_by, origin_at, origin_in, origin_number};
 ghost use Rattle.object_heap.specs.Retains.{Retains};
 ghost use Rattle.object_heap.specs.Stands.{Goes, Keeps, StandsFor};
 
@@ -19,7 +19,7 @@ impl Heap {
     pub fn origin_for(&mut self, kind: OriginKind, places: u32) -> Result<OriginId, NoMemory>
         ensures number { IfOk result (λ id. id ≡ origin_number self.old kind) }
         ensures kind { IfOk result (λ id. origin_at self.new id ≡ kind) }
-        ensures ok { OnOk result ((w : World) → StandsFor self.old w → places ≡ first_places w.script (origin_in w.script kind) → Goes self.old self.new w w) }
+        ensures ok { OnOk result ((w : World) → StandsFor self.old w → BeginsWith w.script kind places → Goes self.old self.new w w) }
         ensures err { OnErr result (Keeps self.old self.new) }
         ensures retains { Retains self.old self.new }
     {
