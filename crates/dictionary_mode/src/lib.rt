@@ -5,6 +5,3 @@ mod dictionary;
 mod numbers;
 
 pub use dictionary::Dictionary;
-
-#[cfg(test)]
-mod tests;

@@ -14,6 +14,3 @@ mod words;
 pub use elements::Elements;
 pub use key_indices::KeyIndices;
 pub use kinds::ElementsKind;
-
-#[cfg(test)]
-mod tests;

@@ -14,6 +14,3 @@ pub use generalising::generalise;
 pub use moves::{Move, Moves, plan};
 pub use updating::updated;
 pub use words::{decode, encode};
-
-#[cfg(test)]
-mod tests;

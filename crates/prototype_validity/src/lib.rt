@@ -9,6 +9,3 @@ mod validity;
 pub use cell::CellId;
 pub use object_list::ObjectList;
 pub use validity::Validity;
-
-#[cfg(test)]
-mod tests;

@@ -43,6 +43,3 @@ impl OriginKind {
         }
     }
 }
-
-#[cfg(test)]
-mod tests;

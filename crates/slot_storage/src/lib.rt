@@ -5,6 +5,3 @@ mod block;
 mod raw;
 
 pub use block::Block;
-
-#[cfg(test)]
-mod tests;

@@ -11,6 +11,3 @@ mod tree;
 
 pub use paths::{Path, Step};
 pub use tree::Tree;
-
-#[cfg(test)]
-mod tests;

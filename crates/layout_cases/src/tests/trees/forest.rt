@@ -6,7 +6,7 @@ ghost use Rattle.map_store.specs.declared.entries.Kind.TheVariants as kind;
 ghost use Rattle.transition_tree.specs.declared.paths.Step.TheVariants as step;
 
 use super::rows::{Call, Seen};
-use crate::{Path, Step, Tree};
+use transition_tree::{Path, Step, Tree};
 use map_store::{Kind, MapId, Maps, OriginId, Representation};
 use property_keys::{Attributes, Counting, NoMemory, PropKey, Steps};
 use std::alloc::Global;
@@ -78,15 +78,14 @@ impl Forest {
         if !self.is_known(map) || !self.maps.is_live(map, &mut steps) {
             return Ok(Seen::NotMeant);
         }
-        let step = match self.maps.find(map, key, &mut steps) {
-            None if self.maps.is_extensible(map) => add(key, writable),
+        let (step, kept) = match self.maps.find(map, key, &mut steps) {
+            None if self.maps.is_extensible(map) => (add(key, writable), Representation::Smi),
             None => return Ok(Seen::NotMeant),
-            Some(_) => redefine(key, writable),
+            Some(_) => (redefine(key, writable), Representation::Tagged),
         };
         if let Some(child) = self.tree.child(&self.maps, map, &step, &mut steps) {
             return Ok(Seen::Map(Some(child.0)));
         }
-        let kept = Representation::Smi;
         let child = self
             .tree
             .add_child(&mut self.maps, map, step, kept, &mut steps)?;
@@ -176,8 +175,21 @@ impl Forest {
             Call::Kept(map, key) if self.is_known(MapId(map)) => {
                 Seen::Is(self.tree.kept(MapId(map), &add(PropKey::Index(key), true)))
             }
+            Call::Shape(map) if self.is_known(MapId(map)) => {
+                Seen::Shape(self.maps.count(MapId(map)), self.maps.array(MapId(map)))
+            }
+            Call::Entry(map, place) => self.entry(MapId(map), place),
             _ => Seen::NotMeant,
         }
+    }
+
+    fn entry(&self, map: MapId, place: u32) -> Seen {
+        if !self.is_known(map) || place >= self.maps.count(map) {
+            return Seen::NotMeant;
+        }
+        let mut steps = Steps::new(Counting::new());
+        let entry = self.maps.entry(map, place, &mut steps);
+        Seen::Entry(entry.place, entry.attributes.writable, entry.representation)
     }
 }
 

@@ -1,7 +1,7 @@
 //! Steps, with what is to be seen of each: the answer, the kind and the capacity after it, and how many steps it took.
 
 use super::{Seen, Step};
-use crate::ElementsKind::{
+use elements_kinds::ElementsKind::{
     self, Dictionary, HoleySmi, HoleyTagged, HoleyWhole, PackedSmi, PackedTagged, PackedWhole,
 };
 use property_keys::{ObjectId, SymbolId, TextId, Value};

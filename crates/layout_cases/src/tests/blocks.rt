@@ -1,6 +1,6 @@
 //! Words at both ends of blocks.
 
-use crate::Block;
+use slot_storage::Block;
 use property_keys::{Counting, Ledger, NoMemory, Steps};
 use std::alloc::Global;
 use std::test::Fail;

@@ -5,7 +5,7 @@ ghost use Rattle.property_keys.specs.Wholes.{IsWhole};
 mod forest;
 mod rows;
 
-use crate::*;
+use map_deprecation::{Class, Move, Moves, class_of, decode, encode, join, plan, takes};
 use Representation::{Ref, Smi, Tagged, Whole};
 use forest::Forest;
 use map_store::{Entry, Kind, MapId, Maps, OriginId, Representation};

@@ -3,13 +3,12 @@
 mod forest;
 mod rows;
 
-use crate::following::follow;
-use crate::*;
 use forest::Forest;
-use map_store::{Kind, MapId, Maps, OriginId, Representation};
-use property_keys::{Attributes, Counting, NoMemory, PropKey, Steps};
+use map_store::Representation;
+use property_keys::NoMemory;
 use rows::{Call, ROWS, Seen};
 use std::test::Fail;
+use transition_tree::{Path, Step};
 
 #[test]
 fn paths_are_lists(rt: HostRuntime) -> Result<(), Fail> {
@@ -20,82 +19,6 @@ fn paths_are_lists(rt: HostRuntime) -> Result<(), Fail> {
     }
     assert_eq!(rt; path.len(), 1);
     assert_eq!(rt; *path.at(0), Step::Close);
-    Ok(())
-}
-
-fn attributes(writable: bool) -> Attributes {
-    Attributes {
-        writable,
-        enumerable: true,
-        configurable: false,
-    }
-}
-
-/// The map with a key more, or with other flags at a key that is there. None where the map is not there or is closed.
-fn with_key(
-    maps: &mut Maps,
-    map: MapId,
-    key: PropKey,
-    writable: bool,
-) -> Result<Option<MapId>, NoMemory> {
-    if map.0 as usize >= maps.len() {
-        return Ok(None);
-    }
-    let mut steps = Steps::new(Counting::new());
-    let kind = Kind::Stored;
-    let attributes = attributes(writable);
-    match maps.find(map, key, &mut steps) {
-        None if maps.is_extensible(map) => {
-            let step = Step::Add {
-                key,
-                kind,
-                attributes,
-            };
-            Ok(Some(follow(maps, map, step, Representation::Smi, &mut steps)?))
-        }
-        None => Ok(None),
-        Some(_) => {
-            let step = Step::Redefine {
-                key,
-                kind,
-                attributes,
-            };
-            Ok(Some(follow(maps, map, step, Representation::Tagged, &mut steps)?))
-        }
-    }
-}
-
-/// A map that follows a root by so many steps that add.
-fn added(maps: &mut Maps, count: u32) -> Result<MapId, Fail> {
-    let mut last = maps.root(OriginId(0), None)?;
-    for key in 0..count {
-        last = with_key(maps, last, PropKey::Index(key), true)?.ok_or("closed")?;
-    }
-    Ok(last)
-}
-
-/// 256 steps that add, and one that redefines the last key: it keeps its place, on an array of its own.
-#[test]
-fn maps_follow_by_steps(rt: HostRuntime) -> Result<(), Fail> {
-    let mut maps = Maps::new(rt.alloc());
-    let last = added(&mut maps, 256)?;
-    let redefined = with_key(&mut maps, last, PropKey::Index(255), false)?.ok_or("closed")?;
-    let mut steps = Steps::new(Counting::new());
-    assert!(rt; (last.0 as usize) < maps.len() && (redefined.0 as usize) < maps.len());
-    assert!(rt; maps.count(last) == 256 && maps.count(redefined) == 256);
-    assert!(rt; maps.array(last) == 0 && maps.array(redefined) == 1);
-    let old = maps.entry(last, 255, &mut steps);
-    let new = maps.entry(redefined, 255, &mut steps);
-    assert!(rt;
-        old.place == 255
-            && old.attributes == attributes(true)
-            && old.representation == Representation::Smi
-    );
-    assert!(rt;
-        new.place == 255
-            && new.attributes == attributes(false)
-            && new.representation == Representation::Tagged
-    );
     Ok(())
 }
 
@@ -137,6 +60,22 @@ fn first_not_next(forest: &mut Forest, count: u32) -> Result<Option<u32>, NoMemo
         }
     }
     Ok(None)
+}
+
+/// 256 steps that add, and one that redefines the last key: it keeps its place, on an array of its own.
+#[test]
+fn maps_follow_by_steps(rt: HostRuntime) -> Result<(), Fail> {
+    let mut forest = Forest::new(rt.alloc());
+    assert!(rt; seen_at_last(&mut forest, Call::Root(0))? == Seen::Map(Some(0)));
+    assert_eq!(rt; first_not_next(&mut forest, 256)?, None);
+    assert!(rt; seen_at_last(&mut forest, Call::Grow(256, 255, false))? == Seen::Map(Some(257)));
+    assert!(rt; seen_at_last(&mut forest, Call::Shape(256))? == Seen::Shape(256, 0));
+    assert!(rt; seen_at_last(&mut forest, Call::Shape(257))? == Seen::Shape(256, 1));
+    let added = Seen::Entry(255, true, Representation::Smi);
+    assert!(rt; seen_at_last(&mut forest, Call::Entry(256, 255))? == added);
+    let redefined = Seen::Entry(255, false, Representation::Tagged);
+    assert!(rt; seen_at_last(&mut forest, Call::Entry(257, 255))? == redefined);
+    Ok(())
 }
 
 /// A walk along a path of 256 steps takes a counted step for each map on it, the root's and the end's too. Where map 255 is

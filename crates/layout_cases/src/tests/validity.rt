@@ -2,7 +2,7 @@
 
 mod times;
 
-use crate::{CellId, ObjectList, Validity};
+use prototype_validity::{CellId, ObjectList, Validity};
 use property_keys::{Counting, Ledger, NoMemory, ObjectId, Steps};
 use std::alloc::Global;
 use std::test::Fail;

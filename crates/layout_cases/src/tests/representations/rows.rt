@@ -1,6 +1,6 @@
 //! Two objects with x and y, and one with x and z: x meets wider and wider values. Worked out by hand.
 
-use crate::Class::{self, Ref, Smi, Whole};
+use map_deprecation::Class::{self, Ref, Smi, Whole};
 use Call::{Add, Field, Generalise, Live, Move, Root};
 use Seen::{Done, Is, Lives, Map, Moves, NotMeant};
 use map_store::Representation;

@@ -3,7 +3,7 @@
 mod rows;
 mod times;
 
-use crate::Dictionary;
+use dictionary_mode::Dictionary;
 use descriptors::Complete;
 use property_keys::{Attributes, Counting, Ledger, NoMemory, PropKey, Steps, TextId, Value};
 use rows::{DELETED_AND_ADDED, ORDER, Row, WRITTEN};

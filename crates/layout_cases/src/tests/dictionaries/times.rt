@@ -1,7 +1,7 @@
 //! Times of additions, look-ups and removals of names, printed.
 
 use super::{filled, name};
-use crate::Dictionary;
+use dictionary_mode::Dictionary;
 use property_keys::{Counting, Steps};
 use std::io;
 use std::test::Fail;

@@ -21,6 +21,10 @@ pub(crate) enum Call {
     Drop(u32),
     Kept(u32, u32),
     Keep(u32, u32, Representation),
+    /// How many entries a map has, and on which array.
+    Shape(u32),
+    /// The entry of a map with this number.
+    Entry(u32, u32),
 }
 
 #[derive(Clone, Copy, PartialEq)]
@@ -32,6 +36,9 @@ pub(crate) enum Seen {
     Steps(usize),
     Lives(bool),
     Is(Representation),
+    Shape(u32, u32),
+    /// The place of the field, whether it is writable, and its representation.
+    Entry(u32, bool, Representation),
     /// The map is not there, or the step does not fit it.
     NotMeant,
 }

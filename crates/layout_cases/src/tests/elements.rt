@@ -5,7 +5,7 @@ ghost use Rattle.elements_kinds.specs.Rules.{IsGood};
 
 mod rows;
 
-use crate::{Elements, ElementsKind};
+use elements_kinds::{Elements, ElementsKind};
 use descriptors::Complete;
 use property_keys::{Attributes, Counting, Ledger, NoMemory, ObjectId, Steps, Value};
 use rows::{CLASSES, FLAGS, GROWTH, REMOVALS, Row, SCRIPTS};

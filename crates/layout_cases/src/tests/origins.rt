@@ -1,6 +1,6 @@
 //! Calls with their answers, worked out by hand.
 
-use crate::*;
+use slack_tracking::{OriginKind, Origins};
 use es_source::Place;
 use map_store::OriginId;
 use property_keys::NoMemory;

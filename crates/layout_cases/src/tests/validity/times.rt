@@ -1,7 +1,7 @@
 //! Times of cells made, found again and ended, printed.
 
 use super::{Chain, list_of};
-use crate::Validity;
+use prototype_validity::Validity;
 use property_keys::{NoMemory, ObjectId};
 use std::alloc::Global;
 use std::io;

@@ -1,7 +1,7 @@
 //! A tree and its maps, in which fields meet values that they do not take.
 
 use super::rows::{Call, Seen};
-use crate::{Class, generalise, plan, updated};
+use map_deprecation::{Class, generalise, plan, updated};
 use map_store::{Kind, MapId, Maps, OriginId, Representation};
 use property_keys::{Attributes, Counting, NoMemory, PropKey, Steps};
 use std::alloc::Global;
