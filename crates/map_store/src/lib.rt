@@ -17,3 +17,6 @@ pub struct MapId(pub u32);
 /// The number of an origin: where an object comes from.
 #[derive(Clone, Copy, Debug, PartialEq, Eq)]
 pub struct OriginId(pub u32);
+
+#[cfg(test)]
+mod tests;

@@ -1,7 +1,7 @@
 //! Words at both ends of blocks.
 
-use slot_storage::Block;
 use property_keys::{Counting, Ledger, NoMemory, Steps};
+use slot_storage::Block;
 use std::alloc::Global;
 use std::test::Fail;
 

@@ -3,8 +3,8 @@
 mod rows;
 mod times;
 
-use dictionary_mode::Dictionary;
 use descriptors::Complete;
+use dictionary_mode::Dictionary;
 use property_keys::{Attributes, Counting, Ledger, NoMemory, PropKey, Steps, TextId, Value};
 use rows::{DELETED_AND_ADDED, ORDER, Row, WRITTEN};
 use std::alloc::Global;

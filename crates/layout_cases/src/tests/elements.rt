@@ -5,8 +5,8 @@ ghost use Rattle.elements_kinds.specs.Rules.{IsGood};
 
 mod rows;
 
-use elements_kinds::{Elements, ElementsKind};
 use descriptors::Complete;
+use elements_kinds::{Elements, ElementsKind};
 use property_keys::{Attributes, Counting, Ledger, NoMemory, ObjectId, Steps, Value};
 use rows::{CLASSES, FLAGS, GROWTH, REMOVALS, Row, SCRIPTS};
 use std::alloc::Global;

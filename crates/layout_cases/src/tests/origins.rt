@@ -1,9 +1,9 @@
 //! Calls with their answers, worked out by hand.
 
-use slack_tracking::{OriginKind, Origins};
 use es_source::Place;
 use map_store::OriginId;
 use property_keys::NoMemory;
+use slack_tracking::{OriginKind, Origins};
 use std::test::Fail;
 
 #[derive(Clone, Copy)]

@@ -5,9 +5,9 @@ ghost use Rattle.property_keys.specs.Wholes.{IsWhole};
 mod forest;
 mod rows;
 
-use map_deprecation::{Class, Move, Moves, class_of, decode, encode, join, plan, takes};
 use Representation::{Ref, Smi, Tagged, Whole};
 use forest::Forest;
+use map_deprecation::{Class, Move, Moves, class_of, decode, encode, join, plan, takes};
 use map_store::{Entry, Kind, MapId, Maps, OriginId, Representation};
 use property_keys::{
     Attributes, Counting, NoMemory, ObjectId, PropKey, Steps, SymbolId, TextId, Value,

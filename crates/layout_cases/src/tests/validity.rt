@@ -2,8 +2,8 @@
 
 mod times;
 
-use prototype_validity::{CellId, ObjectList, Validity};
 use property_keys::{Counting, Ledger, NoMemory, ObjectId, Steps};
+use prototype_validity::{CellId, ObjectList, Validity};
 use std::alloc::Global;
 use std::test::Fail;
 

@@ -1,8 +1,8 @@
 //! Two objects with x and y, and one with x and z: x meets wider and wider values. Worked out by hand.
 
-use map_deprecation::Class::{self, Ref, Smi, Whole};
 use Call::{Add, Field, Generalise, Live, Move, Root};
 use Seen::{Done, Is, Lives, Map, Moves, NotMeant};
+use map_deprecation::Class::{self, Ref, Smi, Whole};
 use map_store::Representation;
 
 /// What is asked. Maps are given by their numbers, and fields by their places.

@@ -6,11 +6,11 @@ ghost use Rattle.map_store.specs.declared.entries.Kind.TheVariants as kind;
 ghost use Rattle.transition_tree.specs.declared.paths.Step.TheVariants as step;
 
 use super::rows::{Call, Seen};
-use transition_tree::{Path, Step, Tree};
 use map_store::{Kind, MapId, Maps, OriginId, Representation};
 use property_keys::{Attributes, Counting, NoMemory, PropKey, Steps};
 use std::alloc::Global;
 use std::marker::Model;
+use transition_tree::{Path, Step, Tree};
 
 /// A tree and its maps. They belong together.
 #[derive(Drop)]

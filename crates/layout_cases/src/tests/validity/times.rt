@@ -1,8 +1,8 @@
 //! Times of cells made, found again and ended, printed.
 
 use super::{Chain, list_of};
-use prototype_validity::Validity;
 use property_keys::{NoMemory, ObjectId};
+use prototype_validity::Validity;
 use std::alloc::Global;
 use std::io;
 use std::test::Fail;
