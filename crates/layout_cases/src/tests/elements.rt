@@ -4,6 +4,7 @@ ghost use Rattle.std.specs.Prelude.{◌≡◌};
 ghost use Rattle.elements_kinds.specs.Rules.{IsGood};
 
 mod rows;
+mod times;
 
 use descriptors::Complete;
 use elements_kinds::{Elements, ElementsKind};
@@ -162,6 +163,22 @@ fn seen_of<L: Ledger>(
     }
 }
 
+/// What is seen of elements without a growth.
+#[derive(Clone, Copy, PartialEq)]
+struct Shape {
+    greatest: Option<u32>,
+    kind: ElementsKind,
+    capacity: u64,
+}
+
+fn shape_of(elements: &Elements) -> Shape {
+    Shape {
+        greatest: elements.greatest(),
+        kind: elements.kind(),
+        capacity: elements.capacity(),
+    }
+}
+
 /// Whether a row's step gives what is to be seen of it.
 fn is_right(alloc: Global, elements: &mut Elements, row: &Row) -> Result<bool, NoMemory> {
     let mut steps = Steps::new(Counting::new());
@@ -174,11 +191,22 @@ fn is_right(alloc: Global, elements: &mut Elements, row: &Row) -> Result<bool, N
     )
 }
 
+/// Whether a row is right. `rt try --test --fail-alloc N` refuses the N-th growth: greatest index, kind and capacity are then as
+/// before, and the step is had at the second try.
+fn is_right_at_last(alloc: Global, elements: &mut Elements, row: &Row) -> Result<bool, NoMemory> {
+    let before = shape_of(elements);
+    match is_right(alloc, elements, row) {
+        Ok(right) => Ok(right),
+        Err(_) if shape_of(elements) != before => Ok(false),
+        Err(_) => is_right(alloc, elements, row),
+    }
+}
+
 /// The number of the first row of which something else is seen.
 fn first_wrong(alloc: Global, rows: &[Row]) -> Result<Option<usize>, NoMemory> {
     let mut elements = Elements::new(alloc);
     for (i, row) in rows.iter().enumerate() {
-        if !is_right(alloc, &mut elements, row)? {
+        if !is_right_at_last(alloc, &mut elements, row)? {
             return Ok(Some(i));
         }
     }
