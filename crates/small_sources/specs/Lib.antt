@@ -1,0 +1,16 @@
+pub mod Rows
+pub mod Bytes
+pub mod Gaps
+pub mod Words
+pub mod Texts
+pub mod Levels
+pub mod Forms
+pub mod Refusals
+pub mod ReservedWords
+pub mod Misplacements
+pub mod Duplicates
+pub mod Captures
+pub mod BadBindings
+pub mod Parts
+pub mod Bindings
+pub mod FaultOrder
