@@ -1,0 +1,6 @@
+pub mod Changed
+pub mod Laws
+pub mod Noted
+pub mod Start
+pub mod Verdicts
+pub mod Worlds
