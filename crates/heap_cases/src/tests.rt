@@ -2,4 +2,5 @@
 
 mod callers;
 mod heap;
+mod limits;
 mod methods;
