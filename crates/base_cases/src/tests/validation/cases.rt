@@ -39,6 +39,12 @@ pub(super) const LISTED: Attributes = Attributes {
     configurable: true,
 };
 
+pub(super) const HIDDEN: Attributes = Attributes {
+    writable: true,
+    enumerable: false,
+    configurable: true,
+};
+
 pub(super) const WRITE: Attributes = Attributes {
     writable: true,
     enumerable: false,
@@ -55,6 +61,30 @@ pub(super) const NONE: Attributes = Attributes {
 pub(super) const FREE: Complete = Complete::Stored {
     value: ONE,
     attributes: ALL,
+};
+
+/// A value that may be written and configured, and is not listed.
+pub(super) const HIDDEN_ONE: Complete = Complete::Stored {
+    value: ONE,
+    attributes: HIDDEN,
+};
+
+/// A value that may be written and listed.
+pub(super) const LISTED_ONE: Complete = Complete::Stored {
+    value: ONE,
+    attributes: Attributes {
+        writable: true,
+        enumerable: true,
+        configurable: false,
+    },
+};
+
+/// A getter that may be configured, and is not listed.
+pub(super) const HIDDEN_F: Complete = Complete::Accessor {
+    get: AT_F,
+    set: None,
+    enumerable: false,
+    configurable: true,
 };
 
 /// A value that may be written and no more.
@@ -93,7 +123,7 @@ pub(super) struct Case {
     pub(super) verdict: Verdict,
 }
 
-pub(super) static CASES: [Case; 33] = [
+pub(super) static CASES: [Case; 39] = [
     // Nothing stands there.
     Case {
         extensible: false,
@@ -361,6 +391,70 @@ pub(super) static CASES: [Case; 33] = [
             value: Value::Undefined,
             attributes: LISTED,
         }),
+    },
+    // What is not listed stays so, whatever it becomes.
+    Case {
+        extensible: true,
+        wanted: Descriptor {
+            get: Some(F),
+            ..NOTHING
+        },
+        current: Some(HIDDEN_ONE),
+        verdict: Verdict::Apply(HIDDEN_F),
+    },
+    Case {
+        extensible: true,
+        wanted: Descriptor {
+            value: Some(TWO),
+            ..NOTHING
+        },
+        current: Some(HIDDEN_F),
+        verdict: Verdict::Apply(Complete::Stored {
+            value: TWO,
+            attributes: Attributes {
+                writable: false,
+                enumerable: false,
+                configurable: true,
+            },
+        }),
+    },
+    // Enumerable alone decides, either way, where it is not configurable, and nothing does where it is.
+    Case {
+        extensible: true,
+        wanted: Descriptor {
+            enumerable: Some(false),
+            ..NOTHING
+        },
+        current: Some(LISTED_ONE),
+        verdict: Verdict::Refuse,
+    },
+    Case {
+        extensible: true,
+        wanted: Descriptor {
+            enumerable: Some(true),
+            ..NOTHING
+        },
+        current: Some(WRITABLE),
+        verdict: Verdict::Refuse,
+    },
+    Case {
+        extensible: true,
+        wanted: Descriptor {
+            enumerable: Some(true),
+            ..NOTHING
+        },
+        current: Some(HIDDEN_ONE),
+        verdict: Verdict::Apply(FREE),
+    },
+    // Configurable alone decides.
+    Case {
+        extensible: true,
+        wanted: Descriptor {
+            configurable: Some(true),
+            ..NOTHING
+        },
+        current: Some(LISTED_ONE),
+        verdict: Verdict::Refuse,
     },
     // The kind stays: each wanted field replaces, and only it.
     Case {
