@@ -7,7 +7,6 @@ mod grammar_faults;
 mod host;
 mod host_limits;
 mod limits;
-mod memory;
 mod parsed;
 mod reading;
 mod rule_faults;
