@@ -1,3 +1,4 @@
 pub mod Conversations
 pub mod Evaluations
+pub mod Requests
 pub mod SmallWorlds

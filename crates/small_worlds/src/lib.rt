@@ -3,6 +3,7 @@
 
 mod conversations;
 mod evaluations;
+mod requests;
 
 ghost use Rattle.small_worlds.specs.SmallWorlds.{CallEnters, CallHalts, CallOfObject, CallOfProxy, CallOfUndefined, CallTooDeep, ConstructOfFunction, CycleHalts, CycleRefused, CycleThroughProxy, DefineAdds, DefineAddsEmpty, DefineGetter, DefineGetterOverFixed, DefineHides, DefineKeeps, DefineKeepsFixed, DefineNoGetter, DefineNothing, DefineOnClosed, DefineOverFixed, DefineOverGetter, DefineShowsFixed, DeleteAbsent, DeleteFixed, DeleteOpen, GetCallsGetter, GetGoesUp, GetHaltsAtGetter, GetHandsReceiver, GetOfNothing, GetWithoutGetter, GetterHasReceiver, HasEntersProxy, HasGoesUp, HasHalts, HasNot, ImmutableRefused, ImmutableSame, IndexIsPut, IndexIsRemoved, IsClosed, IsOpen, KeysInOrder, NoKey, NoReceiver, NullIsSet, OtherOnClosed, PlainIsNoProxy, PreventAgain, PreventCloses, ProxyBelongs, ReadForOther, ReadIsNoted, ReadOfIndex, SameOnClosed, SameOnOpen, SelfRefused, SetAdds, SetBelongs, SetCallsSetter, SetHandsReceiver, SetOnClosed, SetOnNoObject, SetOverFunctions, SetOverReadOnly, SetReadOnly, SetReplaces, SetWithoutSetter, SetterHasValue, SetterReturns, WholeChainIsSet, WriteIsNoted};
 
@@ -14,6 +15,10 @@ pub use conversations::{
 pub use evaluations::{
     calls_are_made, halts_are_exact, members_are_accessed, names_are_looked_up,
     operators_are_applied, primaries_are_evaluated, statements_run,
+};
+pub use requests::{
+    code_units_have_keys, hidden_ones_stay_hidden, own_properties_are_given,
+    primitives_take_nothing, prototypes_are_given, walks_are_noted,
 };
 
 /// `[[Get]]` goes up the prototypes to a value, a getter or nothing.
