@@ -133,6 +133,9 @@ seven_or_x f v = if nat_eq f 1 then gives (whole 7) else gives (word 16)
 abbrev pub PrimitiveStays : Type 0
 PrimitiveStays = seen (outcome silent mute operation.ToPrimitiveText (word 13 ∷ [])) ≡ (gives (word 13), 10, 0)
 
+abbrev pub SymbolStays : Type 0
+SymbolStays = seen (outcome silent mute operation.ToPrimitiveDefault (a_symbol ∷ [])) ≡ (gives a_symbol, 10, 0)
+
 -- with number valueOf comes first: a read, then a turn, a read and a call
 abbrev pub NumberTriesValueOf : Type 0
 NumberTriesValueOf = seen (outcome two_methods seven_or_x operation.ToPrimitiveNumber (object 0 ∷ [])) ≡ (gives (whole 7), 9, 3)
@@ -152,6 +155,9 @@ object_or_x f v = if nat_eq f 1 then gives (object 5) else gives (word 16)
 abbrev pub ObjectIsPassedOver : Type 0
 ObjectIsPassedOver = seen (outcome two_methods object_or_x operation.ToPrimitiveNumber (object 0 ∷ [])) ≡ (gives (word 16), 8, 5)
 
+abbrev pub DefaultPassesOverObject : Type 0
+DefaultPassesOverObject = seen (outcome two_methods object_or_x operation.ToPrimitiveDefault (object 0 ∷ [])) ≡ (gives (word 16), 8, 5)
+
 -- two Objects are none
 abbrev pub two_objects : ℕ → Value → Completion
 two_objects f v = gives (object 5)
@@ -167,6 +173,14 @@ only_to_string other = gives value.Null
 abbrev pub NoFunctionIsPassedOver : Type 0
 NoFunctionIsPassedOver = seen (outcome only_to_string seven_or_x operation.ToPrimitiveNumber (object 0 ∷ [])) ≡ (gives (word 16), 8, 4)
 
+-- with string it is toString that is passed over
+abbrev pub only_value_of : PropKey → Completion
+only_value_of (Name t) = if nat_eq t.0 0 then gives (object 1) else gives (whole 3)
+only_value_of other = gives value.Null
+
+abbrev pub TextPassesOverNoFunction : Type 0
+TextPassesOverNoFunction = seen (outcome only_value_of seven_or_x operation.ToPrimitiveText (object 0 ∷ [])) ≡ (gives (whole 7), 8, 4)
+
 abbrev pub nothing_there : PropKey → Completion
 nothing_there k = gives value.Undefined
 
@@ -176,6 +190,12 @@ NoMethodThrows = thrown (outcome nothing_there mute operation.ToPrimitiveDefault
 -- what a method throws is thrown, and no other is tried
 abbrev pub ThrowIsPassedOn : Type 0
 ThrowIsPassedOn = seen (outcome two_methods mute operation.ToPrimitiveNumber (object 0 ∷ [])) ≡ (Throw (word 16), 9, 3)
+
+abbrev pub DefaultThrows : Type 0
+DefaultThrows = seen (outcome two_methods mute operation.ToPrimitiveDefault (object 0 ∷ [])) ≡ (Throw (word 16), 9, 3)
+
+abbrev pub TextThrows : Type 0
+TextThrows = seen (outcome two_methods mute operation.ToPrimitiveText (object 0 ∷ [])) ≡ (Throw (word 16), 9, 3)
 
 -- there is no turn for the second method
 abbrev pub HaltsAtSecond : Type 0
@@ -207,6 +227,9 @@ own_number k = gives (whole 1)
 abbrev pub OwnMethodNoFunction : Type 0
 OwnMethodNoFunction = thrown (outcome own_number mute operation.ToPrimitiveText (object 0 ∷ [])) ≡ type_error (codes "not a function")
 
+abbrev pub OwnMethodThrows : Type 0
+OwnMethodThrows = seen (outcome own_method mute operation.ToPrimitiveNumber (object 0 ∷ [])) ≡ (Throw (word 16), 10, 2)
+
 -- ---- ToString (7.1.17)
 
 abbrev pub TextOfUndefined : Type 0
@@ -217,6 +240,12 @@ TextOfNull = seen (outcome silent mute operation.ToText (value.Null ∷ [])) ≡
 
 abbrev pub TextOfTruth : Type 0
 TextOfTruth = seen (outcome silent mute operation.ToText (value.Bool true ∷ [])) ≡ (gives (word 7), 10, 0)
+
+abbrev pub TextOfNumber : Type 0
+TextOfNumber = seen (outcome silent mute operation.ToText (value.Whole (negsuc 4) ∷ [])) ≡ (gives (word 8), 10, 0)
+
+abbrev pub TextOfText : Type 0
+TextOfText = seen (outcome silent mute operation.ToText (word 16 ∷ [])) ≡ (gives (word 16), 10, 0)
 
 abbrev pub TextOfSymbol : Type 0
 TextOfSymbol = thrown (outcome silent mute operation.ToText (a_symbol ∷ [])) ≡ type_error (codes "cannot convert")
@@ -235,6 +264,16 @@ NumberOfNull = seen (outcome silent mute operation.ToWhole (value.Null ∷ [])) 
 
 abbrev pub NumberOfTruth : Type 0
 NumberOfTruth = seen (outcome silent mute operation.ToWhole (value.Bool true ∷ [])) ≡ (gives (whole 1), 10, 0)
+
+abbrev pub NumberOfNumber : Type 0
+NumberOfNumber = seen (outcome silent mute operation.ToWhole (value.Whole (negsuc 4) ∷ [])) ≡ (gives (value.Whole (negsuc 4)), 10, 0)
+
+-- an object is converted with the type number, and what that gives is converted then: here null
+abbrev pub null_given : ℕ → Value → Completion
+null_given f v = gives value.Null
+
+abbrev pub NumberOfObject : Type 0
+NumberOfObject = seen (outcome silent null_given operation.ToWhole (object 0 ∷ [])) ≡ (gives (whole 0), 10, 1)
 
 abbrev pub NumberOfSymbol : Type 0
 NumberOfSymbol = thrown (outcome silent mute operation.ToWhole (a_symbol ∷ [])) ≡ type_error (codes "cannot convert")
@@ -269,6 +308,29 @@ KeyOfIndex = seen (outcome silent mute operation.ToKey (whole 3 ∷ [])) ≡ (ke
 
 abbrev pub KeyOfSymbol : Type 0
 KeyOfSymbol = seen (outcome silent mute operation.ToKey (a_symbol ∷ [])) ≡ (key_gives (Sym (record { 0 = 0 })), 10, 0)
+
+abbrev pub KeyOfText : Type 0
+KeyOfText = seen (outcome silent mute operation.ToKey (word 16 ∷ [])) ≡ (key_gives (named 16), 10, 0)
+
+-- the text of an index is an index, and one with zeros before it a name
+abbrev pub KeyOfOne : Type 0
+KeyOfOne = seen (outcome silent mute operation.ToKey (word 15 ∷ [])) ≡ (key_gives (Index 1), 10, 0)
+
+abbrev pub KeyOfZeros : Type 0
+KeyOfZeros = seen (outcome silent mute operation.ToKey (word 12 ∷ [])) ≡ (key_gives (named 12), 10, 0)
+
+abbrev pub KeyOfUndefined : Type 0
+KeyOfUndefined = seen (outcome silent mute operation.ToKey (value.Undefined ∷ [])) ≡ (key_gives (named 5), 10, 0)
+
+abbrev pub KeyOfNull : Type 0
+KeyOfNull = seen (outcome silent mute operation.ToKey (value.Null ∷ [])) ≡ (key_gives (named 6), 10, 0)
+
+abbrev pub KeyOfTruth : Type 0
+KeyOfTruth = seen (outcome silent mute operation.ToKey (value.Bool true ∷ [])) ≡ (key_gives (named 7), 10, 0)
+
+-- an object is converted with the type string, and what that gives is the key
+abbrev pub KeyOfObject : Type 0
+KeyOfObject = seen (outcome silent echoes operation.ToKey (object 0 ∷ [])) ≡ (key_gives (named 2), 10, 1)
 
 -- ---- IsLooselyEqual (7.2.14)
 

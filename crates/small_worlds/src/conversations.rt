@@ -1,25 +1,31 @@
 //! Worked examples of the abstract operations.
 
-ghost use Rattle.small_worlds.specs.Conversations.{DefaultTriesValueOf, EnumerableIsFirst, FirstIsFirst, GetIsNoFunction, HaltsAtSecond, HandlerDecides, HintOfDefault, HintOfNumber, HintOfText, InstanceHalts, IsInstance, IsNoInstance, KeyOfIndex, KeyOfSymbol, KeysAreKeys, LeftIsFirst, LengthIsConverted, ListHalts, ListKeepsLength, ListOfTwo, MixedThrows, NegativeLength, NoFunctionIsPassedOver, NoLength, NoMethodThrows, NoNumberIsLess, NoNumberThrows, NothingIsLess, NullIsNoZero, NullIsUndefined, NumberOfBinary, NumberOfNothing, NumberOfNull, NumberOfPlus, NumberOfSignedHex, NumberOfSymbol, NumberOfTruth, NumberOfUndefined, NumberOfZeros, NumberTooGreat, NumberTriesValueOf, NumbersInOrder, ObjectIsNotNull, ObjectIsPassedOver, ObjectIsText, OwnMethodGivesObject, OwnMethodNoFunction, PrimitiveIsNoInstance, PrimitiveStays, PrintGivesUndefined, PrintThrows, PrototypeIsNoObject, RightIsFirst, SymbolIsNoText, SymbolIsObject, TargetIsNoFunction, TargetIsNoObject, TextIsNumber, TextOfNull, TextOfObject, TextOfSymbol, TextOfTruth, TextOfUndefined, TextTriesToString, TextsInOrder, ThrowIsPassedOn, TruthIsText, TwoObjectsThrow, UndefinedIsNoObject, ValueIsThird, WantedIsNoObject, WrapsNumber};
+ghost use Rattle.small_worlds.specs.Conversations.{DefaultPassesOverObject, DefaultThrows, DefaultTriesValueOf, EnumerableIsFirst, FirstIsFirst, GetIsNoFunction, HaltsAtSecond, HandlerDecides, HintOfDefault, HintOfNumber, HintOfText, InstanceHalts, IsInstance, IsNoInstance, KeyOfIndex, KeyOfNull, KeyOfObject, KeyOfOne, KeyOfSymbol, KeyOfText, KeyOfTruth, KeyOfUndefined, KeyOfZeros, KeysAreKeys, LeftIsFirst, LengthIsConverted, ListHalts, ListKeepsLength, ListOfTwo, MixedThrows, NegativeLength, NoFunctionIsPassedOver, NoLength, NoMethodThrows, NoNumberIsLess, NoNumberThrows, NothingIsLess, NullIsNoZero, NullIsUndefined, NumberOfBinary, NumberOfNothing, NumberOfNull, NumberOfNumber, NumberOfObject, NumberOfPlus, NumberOfSignedHex, NumberOfSymbol, NumberOfTruth, NumberOfUndefined, NumberOfZeros, NumbersInOrder, NumberTooGreat, NumberTriesValueOf, ObjectIsNotNull, ObjectIsPassedOver, ObjectIsText, OwnMethodGivesObject, OwnMethodNoFunction, OwnMethodThrows, PrimitiveIsNoInstance, PrimitiveStays, PrintGivesUndefined, PrintThrows, PrototypeIsNoObject, RightIsFirst, SymbolIsNoText, SymbolIsObject, SymbolStays, TargetIsNoFunction, TargetIsNoObject, TextIsNumber, TextOfNull, TextOfNumber, TextOfObject, TextOfSymbol, TextOfText, TextOfTruth, TextOfUndefined, TextPassesOverNoFunction, TextsInOrder, TextThrows, TextTriesToString, ThrowIsPassedOn, TruthIsText, TwoObjectsThrow, UndefinedIsNoObject, ValueIsThird, WantedIsNoObject, WrapsNumber};
 
 /// ToPrimitive with each hint: which method is tried, what it is told, and what it may give.
 #[tactic(auto, unfolding(es_model::specs::Changes::changed, es_model::specs::Changes::charged, es_model::specs::Changes::added, es_model::specs::Changes::made, es_model::specs::Changes::text_known, es_model::specs::World::allows, es_model::specs::World::number_of))]
 pub fn primitives_are_converted()
     ensures primitive_stays { PrimitiveStays }
+    ensures symbol_stays { SymbolStays }
     ensures number_tries_value_of { NumberTriesValueOf }
     ensures default_tries_value_of { DefaultTriesValueOf }
     ensures text_tries_to_string { TextTriesToString }
     ensures object_is_passed_over { ObjectIsPassedOver }
+    ensures default_passes_over_object { DefaultPassesOverObject }
     ensures two_objects_throw { TwoObjectsThrow }
     ensures no_function_is_passed_over { NoFunctionIsPassedOver }
+    ensures text_passes_over_no_function { TextPassesOverNoFunction }
     ensures no_method_throws { NoMethodThrows }
     ensures throw_is_passed_on { ThrowIsPassedOn }
+    ensures default_throws { DefaultThrows }
+    ensures text_throws { TextThrows }
     ensures halts_at_second { HaltsAtSecond }
     ensures hint_of_text { HintOfText }
     ensures hint_of_number { HintOfNumber }
     ensures hint_of_default { HintOfDefault }
     ensures own_method_gives_object { OwnMethodGivesObject }
     ensures own_method_no_function { OwnMethodNoFunction }
+    ensures own_method_throws { OwnMethodThrows }
 {}
 
 /// ToString of each kind of value.
@@ -28,6 +34,8 @@ pub fn texts_are_made()
     ensures text_of_undefined { TextOfUndefined }
     ensures text_of_null { TextOfNull }
     ensures text_of_truth { TextOfTruth }
+    ensures text_of_number { TextOfNumber }
+    ensures text_of_text { TextOfText }
     ensures text_of_symbol { TextOfSymbol }
     ensures text_of_object { TextOfObject }
 {}
@@ -38,6 +46,8 @@ pub fn numbers_are_read()
     ensures number_of_undefined { NumberOfUndefined }
     ensures number_of_null { NumberOfNull }
     ensures number_of_truth { NumberOfTruth }
+    ensures number_of_number { NumberOfNumber }
+    ensures number_of_object { NumberOfObject }
     ensures number_of_symbol { NumberOfSymbol }
     ensures number_of_signed_hex { NumberOfSignedHex }
     ensures number_of_binary { NumberOfBinary }
@@ -47,11 +57,18 @@ pub fn numbers_are_read()
     ensures number_too_great { NumberTooGreat }
 {}
 
-/// ToPropertyKey: an index and a Symbol.
+/// ToPropertyKey of each kind of value.
 #[tactic(auto, unfolding(es_model::specs::Changes::changed, es_model::specs::Changes::charged, es_model::specs::Changes::added, es_model::specs::Changes::made, es_model::specs::Changes::text_known, es_model::specs::World::allows, es_model::specs::World::number_of))]
 pub fn keys_are_made()
     ensures key_of_index { KeyOfIndex }
     ensures key_of_symbol { KeyOfSymbol }
+    ensures key_of_text { KeyOfText }
+    ensures key_of_one { KeyOfOne }
+    ensures key_of_zeros { KeyOfZeros }
+    ensures key_of_undefined { KeyOfUndefined }
+    ensures key_of_null { KeyOfNull }
+    ensures key_of_truth { KeyOfTruth }
+    ensures key_of_object { KeyOfObject }
 {}
 
 /// IsLooselyEqual of values of two types.
