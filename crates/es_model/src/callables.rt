@@ -1,4 +1,4 @@
-//! Which objects are called and constructed, and what GetMethod finds (ECMA-262, 7.2.3, 7.2.4, 7.3.11).
+//! Which objects are called and constructed, and what GetMethod finds (ECMA-262, 7.2.3, 7.2.4, 7.3.10).
 
 ghost use Rattle.std.specs.Prelude.{◌≡◌};
 ghost use Rattle.es_model.specs.programs.Testing.{is_callable_kind, is_constructor_kind};
@@ -6,7 +6,7 @@ ghost use Rattle.es_model.specs.programs.Testing.{is_callable_kind, is_construct
 use crate::ObjectKind;
 use property_keys::ObjectId;
 
-/// What GetMethod finds under a key (ECMA-262, 7.3.11).
+/// What GetMethod finds under a key (ECMA-262, 7.3.10).
 #[derive(Clone, Copy, Debug, PartialEq, Eq)]
 pub enum Method {
     /// undefined or null

@@ -67,13 +67,13 @@ pub enum Request {
     Prevent {
         object: ObjectId,
     },
-    /// Call (7.3.14)
+    /// Call (7.3.13)
     Call {
         function: Value,
         this: Value,
         arguments: Values,
     },
-    /// Construct (7.3.15)
+    /// Construct (7.3.14)
     Construct {
         function: ObjectId,
         arguments: Values,

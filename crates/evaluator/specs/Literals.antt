@@ -85,7 +85,7 @@ getter f = record { value = None; writable = None; get = Some (accessor f); set 
 abbrev pub setter : Value → Descriptor
 setter f = record { value = None; writable = None; get = None; set = Some (accessor f); enumerable = Some true; configurable = Some true }
 
--- CreateDataPropertyOrThrow (7.3.7) on the new object, which refuses nothing, and what comes then
+-- CreateDataPropertyOrThrow (7.3.6) on the new object, which refuses nothing, and what comes then
 abbrev pub property_valued : ObjectId → PropKey → (Value → Descriptor) → Program → Completion → Program
 property_valued o k made next c = then_value (λ v. define o k (made v) (λ succeeded. next)) c
 

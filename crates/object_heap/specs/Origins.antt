@@ -75,7 +75,9 @@ constructor_places this_names = min (this_names + 8) 32
 -- the places with which an origin of a script begins: those of a literal that begins at its place, or of a function, of which a script has one at most
 abbrev pub BeginsWith : Tree → OriginKind → ℕ → Type 0
 BeginsWith script (origin.Literal place) places =
-    (number : ℕ) × (literal : LiteralFacts) × (slice_get script.literals number ≡ Some literal) × (literal.place ≡ place) × (places ≡ literal_places literal.definitions)
+    (number : ℕ) × (literal : LiteralFacts)
+    × (slice_get script.literals number ≡ Some literal) × (literal.place ≡ place) × (places ≡ literal_places literal.definitions)
 BeginsWith script (origin.Constructor place) places =
-    (number : ℕ) × (function : FunctionFacts) × (slice_get script.functions number ≡ Some function) × (function.place ≡ place) × (places ≡ constructor_places function.this_names)
+    (number : ℕ) × (function : FunctionFacts)
+    × (slice_get script.functions number ≡ Some function) × (function.place ≡ place) × (places ≡ constructor_places function.this_names)
 BeginsWith script other places = places ≡ 4

@@ -84,7 +84,7 @@ impl Heap {
         }
     }
 
-    /// What GetMethod makes of the value that stands under the key (ECMA-262, 7.3.11, steps 2 to 4).
+    /// What GetMethod makes of the value that stands under the key (ECMA-262, 7.3.10, steps 2 to 4).
     pub fn method(&self, value: Value) -> Method
         ensures { (w : World) → StandsFor self.now w → result ≡ method_in w.lists value }
     {

@@ -81,7 +81,7 @@ print_row = start_number intrinsic.Print
 abbrev pub row_program : ℕ → List Value → Program
 row_program row arguments = if nat_eq row print_row then print arguments else unwritten
 
--- ---- Call (7.3.14) and Construct (7.3.15)
+-- ---- Call (7.3.13) and Construct (7.3.14)
 
 -- who is called
 abbrev pub callee_of : ObjectKind → Callee

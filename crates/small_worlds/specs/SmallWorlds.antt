@@ -501,7 +501,7 @@ IsOpen = answers (Extensible (at 0)) pair (says true) pair 0
 abbrev pub IsClosed : Type 0
 IsClosed = answers (Extensible (at 1)) pair (says false) pair 0
 
--- ---- Call (7.3.14) and Construct of what has no such method
+-- ---- Call (7.3.13) and Construct of what has no such method
 
 abbrev pub thrown_of : ℕ → ℕ → ℕ → List (List ℕ) → World
 thrown_of up said name texts =

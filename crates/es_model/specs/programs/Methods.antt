@@ -1,4 +1,4 @@
--- Properties that algorithms ask for by a name of the standard's own, and methods (ECMA-262, 7.3.2, 7.3.11, 7.3.12).
+-- Properties that algorithms ask for by a name of the standard's own, and methods (ECMA-262, 7.3.2, 7.3.10, 7.3.11).
 use Rattle.std.specs.Prelude.{ℕ, if◌then◌else◌, Option, Some, None, List}
 use Rattle.property_keys.specs.declared.identifiers.ObjectId.{ObjectId}
 use Rattle.property_keys.specs.declared.keys.PropKey.{PropKey}
@@ -23,11 +23,11 @@ get o k next = ask (Read o k (value.Object o) None) next
 abbrev pub get_named : ObjectId → List ℕ → (Completion → Program) → Program
 get_named o name next = intern name (λ t. get o (Name t) next)
 
--- HasProperty (7.3.12) by a name
+-- HasProperty (7.3.11) by a name
 abbrev pub has_named : ObjectId → List ℕ → (Completion → Program) → Program
 has_named o name next = intern name (λ t. ask (Has o (Name t)) next)
 
--- steps 2 to 4 of GetMethod (7.3.11), of the value that stands under the key
+-- steps 2 to 4 of GetMethod (7.3.10), of the value that stands under the key
 abbrev pub method_in : Lists → Value → Method
 method_in l value.Undefined = method.Absent
 method_in l value.Null = method.Absent
