@@ -7,6 +7,7 @@ mod grammar_faults;
 mod host;
 mod host_limits;
 mod limits;
+mod memory;
 mod parsed;
 mod reading;
 mod rule_faults;

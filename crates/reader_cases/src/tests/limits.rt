@@ -1,7 +1,7 @@
 //! The limits of a source: its length, that of a text or name, and nesting. A statement is one production and an expression in it another, so the first token of an expression stands in two, and each
 //! parenthesis, prefix operator, function or block around it adds one.
 
-use super::reading::parsed;
+use super::reading::{parsed, read};
 use es_source::{FaultCode, Place, ReadStop, SourceFault};
 use script_syntax::tokens;
 use std::alloc::Global;
@@ -171,5 +171,21 @@ fn length_of_a_text_or_name(rt: HostRuntime) -> Result<(), Fail> {
         Ok((1, on_first_line(1_048_577)))
     );
     assert_eq!(rt; long(alloc, b"", most, b"a")?, too_long);
+    Ok(())
+}
+
+/// How many nodes, functions and sites the tree of a text so many times has.
+fn counts(alloc: Global, part: (&[u8], usize)) -> Result<Result<(u32, u32, u32), ReadStop>, Fail> {
+    let source = repeated(alloc, b"", part, b"")?;
+    Ok(read(alloc, &source).map(|tree| (tree.nodes(), tree.functions(), tree.sites())))
+}
+
+#[test]
+fn more_than_65_536_of_each(rt: HostRuntime) -> Result<(), Fail> {
+    // a statement and its function, and in that a statement, an access with its site, and a name: five nodes, one function, one site
+    assert_eq!(rt;
+        counts(rt.alloc(), (b"(function(){a.b});", 65_537))?,
+        Ok((327_685, 65_537, 65_537))
+    );
     Ok(())
 }
