@@ -1,7 +1,7 @@
 -- A scope is entered: cells over plain variables.
-use Rattle.std.proofs.Common.{◌≡◌, ◌≤◌, ℕ, zero, suc, ◌+◌, Option, None, List, [], ◌∷◌, ◌++◌, length, length-append, take, Result, Ok, Err, refl, sym, ◌∙◌, ap, subst, arith, append_assoc}
-use Rattle.std.proofs.Math.Seq.{take-length}
-use Rattle.std.proofs.lemmas.List.{append-nil, take-append-le}
+use Rattle.std.proofs.Common.{◌≡◌, ◌≤◌, ℕ, zero, suc, ◌+◌, Option, None, List, [], ◌∷◌, ◌++◌, length, length-append, take, drop, Result, Ok, Err, refl, sym, ◌∙◌, ap, subst, arith, append_assoc}
+use Rattle.std.proofs.Math.Seq.{take-append_seam, take-length}
+use Rattle.std.proofs.lemmas.List.{append-nil, take-append-drop, take-append-le}
 use Rattle.es_model.specs.declared.kinds.CellNo.{CellNo}
 use Rattle.es_model.specs.World.{World, new_cell}
 use Rattle.es_model.specs.Changes.{MakingCell, changed}
@@ -56,3 +56,11 @@ front_one start cells new cell f e = record {
   longer = (let l = length-append cells (cell ∷ []) in let m = ap length e in let low = f.longer in omega arith);
   front = ap (take (length start)) e ∙ take-append-le (length start) cells (cell ∷ []) f.longer ∙ f.front;
 }
+
+-- the same where more cells came behind
+pub front_more : (old pushed new : List CellNo) (cell : CellNo) → pushed ≡ old ++ cell ∷ [] → take (length pushed) new ≡ pushed → take (length old) new ≡ old
+front_more old pushed new cell is front =
+    let rest : List CellNo = drop (length pushed) new in
+    let whole : new ≡ pushed ++ rest = sym (take-append-drop (length pushed) new) ∙ ap (λ l. l ++ rest) front in
+    let longer : length old ≤ length pushed = (let l = length-append old (cell ∷ []) in let m = ap length is in omega arith) in
+    ap (take (length old)) whole ∙ take-append-le (length old) pushed rest longer ∙ ap (take (length old)) is ∙ take-append_seam old (cell ∷ [])

@@ -63,7 +63,7 @@ method_keyed-within r b here o prefix made m next some h = λ k.
 pub proto_answered-within : (r b : ℕ) (next : Program) → Within r b next → On r b (proto_answered next)
 proto_answered-within r b next h = λ c. flag-within r b _ c (λ x. h)
 
-proto_of-within : (r b left : ℕ) (o : ObjectId) (next : Program) (v : Value) → left + 1 ≤ b → Within r left next → Within r b (proto_of o next v)
+pub proto_of-within : (r b left : ℕ) (o : ObjectId) (next : Program) (v : Value) → left + 1 ≤ b → Within r left next → Within r b (proto_of o next v)
 proto_of-within r b left o next (value.Object p) some h = (asked-within _ _ left _ _ (omega arith) (proto_answered-within r left next h))
 proto_of-within r b left o next value.Null some h = (asked-within _ _ left _ _ (omega arith) (proto_answered-within r left next h))
 proto_of-within r b left o next value.Undefined some h = more-within r left b next (omega arith) h

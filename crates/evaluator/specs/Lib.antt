@@ -3,9 +3,11 @@ pub mod Assignments
 pub mod Calls
 pub mod Contexts
 pub mod Errors
+pub mod Frames
 pub mod Functions
 pub mod Lists
 pub mod Literals
+pub mod Machine
 pub mod Operators
 pub mod Plans
 pub mod References

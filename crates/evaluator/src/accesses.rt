@@ -1,11 +1,16 @@
 //! Member accesses (ECMA-262, 13.3.2), names (13.1.3), and what is done with a reference.
 
-ghost use Rattle.std.specs.Prelude.{◌≡◌, Some};
+ghost use Rattle.std.specs.Prelude.{◌≡◌, None, Some};
 ghost use Rattle.es_tree.specs.declared.expressions.Access.TheVariants as access;
 ghost use Rattle.es_model.specs.Program.{charge};
 ghost use Rattle.evaluator.specs.Accesses.{access_reference, target_at, target_reference};
+ghost use Rattle.evaluator.specs.declared.items.AccessItem.TheVariants as access_item;
+ghost use Rattle.evaluator.specs.declared.items.Item.TheVariants as item_of;
+ghost use Rattle.evaluator.specs.declared.items.Job.TheVariants as job;
+ghost use Rattle.evaluator.specs.declared.items.Plan.TheVariants as plan;
+ghost use Rattle.evaluator.specs.declared.references.Reference.TheVariants as reference_of;
 ghost use Rattle.evaluator.specs.Plans.{PlansAt, access_valued, purpose_program};
-ghost use Rattle.evaluator.specs.References.{name_of, object_or_undefined, resolve, resolve_bound};
+ghost use Rattle.evaluator.specs.References.{name_of, resolve, resolve_bound};
 
 use crate::calls::callee_reference;
 use crate::cells::Cells;
@@ -18,11 +23,12 @@ use crate::references::Reference;
 use crate::requests::convert;
 use crate::texts::{intern, key_of};
 use crate::tree::node_at;
+use crate::values::object_or_undefined;
 use crate::writing::delete_reference;
 use es_model::{CellNo, Intrinsic, Operation, Request, Running, Stop};
 use es_tree::{Access, Binding, Checked, Named, Node, NodeId, SiteId, Target};
 use object_heap::Heap;
-use property_keys::{Ledger, ObjectId, Steps, TextId, Units, Value};
+use property_keys::{Ledger, PropKey, Steps, TextId, Units, Value};
 
 /// The name that an anonymous function gets by an assignment to a reference (13.15.2).
 fn name_of(reference: Reference) -> Option<TextId>
@@ -81,13 +87,13 @@ pub(crate) fn purpose_plan<L: Ledger>(
     }
 }
 
-/// A value, or undefined.
-fn object_or_undefined(object: Option<ObjectId>) -> Value
-    ensures { result ≡ object_or_undefined object }
+fn cell_reference(name: TextId, cell: CellNo, constant: bool) -> Reference
+    ensures { result ≡ reference_of.Cell name cell constant }
 {
-    match object {
-        None => Value::Undefined,
-        Some(object) => Value::Object(object),
+    Reference::Cell {
+        name,
+        cell,
+        constant,
     }
 }
 
@@ -114,32 +120,21 @@ fn resolve_bound<L: Ledger>(
             Ok(Plan::Ask(request, Asked::Flag(next)))
         }
         Binding::Top { cell, constant } => {
-            let reference = Reference::Cell {
-                name,
-                cell: CellNo(cell),
-                constant,
-            };
+            let reference = cell_reference(name, CellNo(cell), constant);
             purpose_plan(heap, script, body, cells, purpose, reference, steps)
         }
         Binding::Own { place, constant } => {
-            let reference = Reference::Cell {
-                name,
-                cell: cells.at(place),
-                constant,
-            };
+            let reference = cell_reference(name, cells.at(place), constant);
             purpose_plan(heap, script, body, cells, purpose, reference, steps)
         }
         Binding::Arguments => {
-            let reference = Reference::Arguments {
-                value: object_or_undefined(body.arguments),
-            };
+            let value = object_or_undefined(body.arguments);
+            let reference = Reference::Arguments { value };
             purpose_plan(heap, script, body, cells, purpose, reference, steps)
         }
         Binding::Callee => {
-            let reference = Reference::Callee {
-                name,
-                value: object_or_undefined(body.callee),
-            };
+            let value = object_or_undefined(body.callee);
+            let reference = Reference::Callee { name, value };
             purpose_plan(heap, script, body, cells, purpose, reference, steps)
         }
     }
@@ -299,6 +294,46 @@ pub(crate) fn target_reference<L: Ledger>(
     }
 }
 
+/// A property of a value, with the sites at which it is read and written.
+pub(crate) fn property_reference(
+    base: Value,
+    key: PropKey,
+    read: Option<SiteId>,
+    write: Option<SiteId>,
+) -> Reference
+    ensures { result ≡ reference_of.Property base key read write }
+{
+    Reference::Property {
+        base,
+        key,
+        read,
+        write,
+    }
+}
+
+/// The key of a member access is evaluated.
+fn wait_for_key(
+    key: NodeId,
+    base: Value,
+    read: Option<SiteId>,
+    write: Option<SiteId>,
+    purpose: Purpose,
+) -> Plan
+    ensures { result ≡ plan.Wait (job.Node None key) (item_of.Access (access_item.KeyValued base read write purpose)) }
+{
+    let item = AccessItem::KeyValued {
+        base,
+        read,
+        write,
+        purpose,
+    };
+    let part = Job::Node {
+        name: None,
+        node: key,
+    };
+    Plan::Wait(part, Item::Access(item))
+}
+
 /// A member access goes on with the value of a part of it.
 pub(crate) fn access_valued<L: Ledger>(
     heap: &mut Heap,
@@ -318,12 +353,7 @@ pub(crate) fn access_valued<L: Ledger>(
             write,
             purpose,
         } => {
-            let reference = Reference::Property {
-                base: value,
-                key,
-                read,
-                write,
-            };
+            let reference = property_reference(value, key, read, write);
             purpose_plan(heap, script, body, cells, purpose, reference, steps)
         }
         AccessItem::IndexBased {
@@ -331,18 +361,7 @@ pub(crate) fn access_valued<L: Ledger>(
             read,
             write,
             purpose,
-        } => Ok(Plan::Wait(
-            Job::Node {
-                name: None,
-                node: key,
-            },
-            Item::Access(AccessItem::KeyValued {
-                base: value,
-                read,
-                write,
-                purpose,
-            }),
-        )),
+        } => Ok(wait_for_key(key, value, read, write, purpose)),
         AccessItem::KeyValued {
             base,
             read,
@@ -355,16 +374,9 @@ pub(crate) fn access_valued<L: Ledger>(
                 write,
                 purpose,
             };
-            convert(
-                heap,
-                script,
-                body,
-                cells,
-                Operation::ToKey,
-                value,
-                Asked::Key(next),
-                steps,
-            )
+            let operation = Operation::ToKey;
+            let asked = Asked::Key(next);
+            convert(heap, script, body, cells, operation, value, asked, steps)
         }
     }
 }

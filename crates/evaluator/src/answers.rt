@@ -1,20 +1,23 @@
 //! What waits for an answer goes on with it.
 
 ghost use Rattle.evaluator.specs.Plans.{PlansAt, asked_program, flag_answered, key_answered, value_answered};
+ghost use Rattle.std.specs.Prelude.{◌≡◌};
 ghost use Rattle.es_model.specs.Completions.{answered};
+ghost use Rattle.evaluator.specs.declared.references.Reference.TheVariants as reference;
 
-use crate::accesses::purpose_plan;
+use crate::accesses::{property_reference, purpose_plan};
 use crate::arithmetic::{add_primitives, calculated, joined, negated, update_number};
 use crate::cells::Cells;
+use crate::definitions::{definition_keyed, properties_from};
 use crate::items::{Asked, Ending, FlagAsked, KeyAsked, Plan, ValueAsked};
-use crate::reading::{got_again, reading_valued};
+use crate::reading::{get_value, got_again, reading_valued};
 use crate::references::Reference;
 use crate::requests::convert;
 use crate::writing::{put_again, unless_refused};
 use es_model::{Completion, Operation, Request, Running, Stop};
 use es_tree::Checked;
 use object_heap::Heap;
-use property_keys::{Ledger, PropKey, Steps, Value};
+use property_keys::{Ledger, PropKey, Steps, TextId, Value};
 
 fn value_answered<L: Ledger>(
     heap: &mut Heap,
@@ -108,6 +111,13 @@ fn value_answered<L: Ledger>(
     }
 }
 
+/// A name of the global object, once it has been looked at.
+fn global_name(name: TextId, key: PropKey, present: bool) -> Reference
+    ensures { result ≡ reference.Global name key present }
+{
+    Reference::Global { name, key, present }
+}
+
 fn flag_answered<L: Ledger>(
     heap: &mut Heap,
     script: &Checked,
@@ -121,11 +131,7 @@ fn flag_answered<L: Ledger>(
 {
     match asked {
         FlagAsked::Looked { name, key, purpose } => {
-            let reference = Reference::Global {
-                name,
-                key,
-                present: flag,
-            };
+            let reference = global_name(name, key, flag);
             purpose_plan(heap, script, body, cells, purpose, reference, steps)
         }
         FlagAsked::LookedAgain { name, key, reading } => got_again(
@@ -142,17 +148,19 @@ fn flag_answered<L: Ledger>(
         FlagAsked::PutAnswered { given } => unless_refused(
             heap, script, body, cells, flag, given, steps,
         ),
-        FlagAsked::DeleteAnswered => unless_refused(
-            heap,
-            script,
-            body,
-            cells,
-            flag,
-            Value::Bool(flag),
-            steps,
-        ),
+        FlagAsked::DeleteAnswered => {
+            let given = Value::Bool(flag);
+            unless_refused(heap, script, body, cells, flag, given, steps)
+        }
         FlagAsked::FlagGiven => Ok(Plan::Ends(Ending::Gives(Value::Bool(flag)))),
         FlagAsked::FlagDenied => Ok(Plan::Ends(Ending::Gives(Value::Bool(!flag)))),
+        FlagAsked::ReadLooked { name, key, reading } => {
+            let reference = global_name(name, key, flag);
+            get_value(heap, script, body, cells, reference, reading, steps)
+        }
+        FlagAsked::ProtoAnswered { node, next, object } => properties_from(
+            heap, script, body, cells, node, next, object, steps,
+        ),
     }
 }
 
@@ -174,18 +182,16 @@ fn key_answered<L: Ledger>(
             write,
             purpose,
         } => {
-            let reference = Reference::Property {
-                base,
-                key,
-                read,
-                write,
-            };
+            let reference = property_reference(base, key, read, write);
             purpose_plan(heap, script, body, cells, purpose, reference, steps)
         }
         KeyAsked::InKeyed { object } => {
             let request = Request::Has { object, key };
             Ok(Plan::Ask(request, Asked::Flag(FlagAsked::FlagGiven)))
         }
+        KeyAsked::PropertyKey { node, at, object } => definition_keyed(
+            heap, script, body, cells, node, at, object, key, steps,
+        ),
     }
 }
 

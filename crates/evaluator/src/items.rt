@@ -51,6 +51,13 @@ pub(crate) enum Reading {
         prefix: bool,
         reference: Reference,
     },
+    /// It is the value of the property definition before this number.
+    Shorthand {
+        node: NodeId,
+        next: usize,
+        object: ObjectId,
+        key: PropKey,
+    },
 }
 
 /// A point at which a member access waits for a part of it.
@@ -114,6 +121,37 @@ pub(crate) enum OperatorItem {
     },
 }
 
+/// What a property definition makes of the value: a property with it, or one with an accessor's function.
+#[derive(Clone, Copy)]
+pub(crate) enum Made {
+    Plain,
+    Getter,
+    Setter,
+}
+
+/// A point at which an object literal waits for a part of a property definition: the literal's node, the number of the definition or of the one behind it, and
+/// the object.
+#[derive(Clone, Copy)]
+pub(crate) enum LiteralItem {
+    PropertyValued {
+        node: NodeId,
+        next: usize,
+        object: ObjectId,
+        key: PropKey,
+        made: Made,
+    },
+    KeyValued {
+        node: NodeId,
+        at: usize,
+        object: ObjectId,
+    },
+    ProtoValued {
+        node: NodeId,
+        next: usize,
+        object: ObjectId,
+    },
+}
+
 /// A point at which a statement waits for a part of it.
 #[derive(Clone, Copy)]
 pub(crate) enum StatementItem {
@@ -170,6 +208,7 @@ pub(crate) enum Item {
     Read(Reading),
     Access(AccessItem),
     Operator(OperatorItem),
+    Literal(LiteralItem),
     Statement(StatementItem),
     /// An argument, of which those before it have these values. The next one has this number.
     Argument {
@@ -250,6 +289,18 @@ pub(crate) enum FlagAsked {
     DeleteAnswered,
     FlagGiven,
     FlagDenied,
+    /// The first look at a name of the global object that is read then.
+    ReadLooked {
+        name: TextId,
+        key: PropKey,
+        reading: Reading,
+    },
+    /// An object literal's prototype was set.
+    ProtoAnswered {
+        node: NodeId,
+        next: usize,
+        object: ObjectId,
+    },
 }
 
 /// A point at which a node waits for a property key.
@@ -262,6 +313,12 @@ pub(crate) enum KeyAsked {
         purpose: Purpose,
     },
     InKeyed {
+        object: ObjectId,
+    },
+    /// The key of the property definition with this number.
+    PropertyKey {
+        node: NodeId,
+        at: usize,
         object: ObjectId,
     },
 }

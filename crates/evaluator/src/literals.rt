@@ -3,18 +3,28 @@
 ghost use Rattle.property_keys.specs.declared.values.Value.TheVariants as values;
 ghost use Rattle.evaluator.specs.Contexts.{gives};
 ghost use Rattle.evaluator.specs.Errors.{make_text};
-ghost use Rattle.evaluator.specs.Plans.{PlansAt};
+ghost use Rattle.std.specs.Prelude.{◌≡◌, ◌<◌, Some, length, slice_get};
+ghost use Rattle.es_tree.specs.Tree.{NamesParts};
+ghost use Rattle.es_tree.specs.declared.node.Node.TheVariants as node_of;
+ghost use Rattle.evaluator.specs.Contexts.{context};
+ghost use Rattle.evaluator.specs.Literals.{object_literal, primary_program};
+ghost use Rattle.evaluator.specs.Plans.{PlansAt, PlansOf};
+ghost use Rattle.evaluator.specs.declared.items.Ending.TheVariants as ending;
+ghost use Rattle.evaluator.specs.declared.items.Plan.TheVariants as plan;
 ghost use Rattle.evaluator.specs.Values.{or_out, whole_of};
 
+use crate::accesses::resolve;
 use crate::cells::Cells;
-use crate::items::{Ending, Plan};
+use crate::definitions::properties_from;
+use crate::items::{Ending, Plan, Purpose};
 use crate::messages::out_of_profile;
 use crate::texts::intern;
 use crate::values::whole_of;
-use es_model::{Running, Stop};
-use es_tree::Checked;
-use object_heap::Heap;
-use property_keys::{Ledger, Steps, Units, Value};
+use es_model::{Class, Intrinsic, ObjectKind, Running, Stop};
+use es_tree::{Checked, LiteralNo, NodeId, Primary};
+use object_heap::{Heap, literal_places};
+use property_keys::{Ledger, Steps, TextId, Units, Value};
+use slack_tracking::OriginKind;
 
 pub(crate) fn number<L: Ledger>(
     heap: &mut Heap,
@@ -44,4 +54,61 @@ pub(crate) fn text<L: Ledger>(
 {
     let text = intern(heap, units)?;
     Ok(Plan::Ends(Ending::Gives(Value::Text(text))))
+}
+
+/// A new object, whose origin is the literal at its place, and its property definitions.
+fn object_literal<L: Ledger>(
+    heap: &mut Heap,
+    script: &Checked,
+    body: Running,
+    cells: &Cells,
+    node: NodeId,
+    literal: LiteralNo,
+    steps: &mut Steps<L>,
+) -> Result<Plan, Stop>
+    requires { literal.0 < length script.now.literals }
+    ensures { PlansOf (context script.now body cells.now) (context script.now body cells.now) heap.old heap.new (λ here. object_literal here node literal) result }
+{
+    let facts = *script.literal(literal);
+    let places = literal_places(facts.definitions);
+    let origin = heap.origin_for(OriginKind::Literal(facts.place), places)?;
+    let proto = Intrinsic::Prototype(Class::Object).object();
+    let object = heap.make(ObjectKind::Ordinary, origin, Some(proto), steps)?;
+    properties_from(heap, script, body, cells, node, 0, object, steps)
+}
+
+/// What is not written yet throws undefined.
+fn unwritten() -> Plan
+    ensures { result ≡ plan.Ends (ending.Throws values.Undefined) }
+{
+    Plan::Ends(Ending::Throws(Value::Undefined))
+}
+
+/// A primary expression, after its turn.
+pub(crate) fn primary_plan<L: Ledger>(
+    heap: &mut Heap,
+    script: &Checked,
+    body: Running,
+    cells: &Cells,
+    name: Option<TextId>,
+    node: NodeId,
+    primary: &Primary,
+    steps: &mut Steps<L>,
+) -> Result<Plan, Stop>
+    requires parts { NamesParts script.now primary.now }
+    requires at { slice_get script.now.nodes node.0 ≡ Some (node_of.Primary primary.now) }
+    ensures { PlansOf (context script.now body cells.now) (context script.now body cells.now) heap.old heap.new (λ here. primary_program here name node primary.now) result }
+{
+    match primary {
+        Primary::This => Ok(Plan::Ends(Ending::Gives(body.this))),
+        Primary::Name(named) => resolve(heap, script, body, cells, named, Purpose::Read, steps),
+        Primary::Number(n) => number(heap, script, body, cells, *n, steps),
+        Primary::Text(units) => text(heap, script, body, cells, units, steps),
+        Primary::Null => Ok(Plan::Ends(Ending::Gives(Value::Null))),
+        Primary::Bool(b) => Ok(Plan::Ends(Ending::Gives(Value::Bool(*b)))),
+        Primary::Object { literal, .. } => object_literal(
+            heap, script, body, cells, node, *literal, steps,
+        ),
+        Primary::Array(_) | Primary::Function(_) | Primary::Method(_) => Ok(unwritten()),
+    }
 }

@@ -1,21 +1,45 @@
 //! GetValue (ECMA-262, 6.2.5.5), and what is done with the value.
 
 ghost use Rattle.property_keys.specs.declared.keys.PropKey.TheVariants.{Index};
+ghost use Rattle.std.specs.Prelude.{◌≡◌, None};
+ghost use Rattle.evaluator.specs.declared.items.Item.TheVariants as item_of;
+ghost use Rattle.evaluator.specs.declared.items.Job.TheVariants as job;
+ghost use Rattle.evaluator.specs.declared.items.OperatorItem.TheVariants as operator_item;
+ghost use Rattle.evaluator.specs.declared.items.Plan.TheVariants as plan;
 ghost use Rattle.evaluator.specs.Plans.{PlansAt, reading_program, reading_valued};
 ghost use Rattle.evaluator.specs.References.{get_above, get_in_text, get_named, get_of, get_unit, get_value, got_again};
 
 use crate::calls::arguments_from;
 use crate::cells::Cells;
-use crate::items::{Asked, Ending, FlagAsked, Item, Job, OperatorItem, Plan, Reading, ValueAsked};
+use crate::definitions::property_valued;
+use crate::items::{
+    Asked, Ending, FlagAsked, Item, Job, Made, OperatorItem, Plan, Reading, ValueAsked,
+};
 use crate::messages::{not_an_object, not_defined, not_initialised};
 use crate::operators::typeof_value;
-use crate::references::{Invocation, Reference};
+use crate::references::{Arithmetic, Invocation, Reference};
 use crate::requests::convert;
 use crate::texts::{text_len, text_unit, unit_text};
 use es_model::{Class, Intrinsic, Operation, Request, Running, StartText, Stop, Values};
-use es_tree::{Checked, SiteId};
+use es_tree::{Checked, NodeId, SiteId};
 use object_heap::Heap;
 use property_keys::{Ledger, PropKey, Steps, TextId, Value};
+
+/// The right operand of a compound assignment is evaluated.
+fn wait_for_right(operator: Arithmetic, right: NodeId, reference: Reference, left: Value) -> Plan
+    ensures { result ≡ plan.Wait (job.Node None right) (item_of.Operator (operator_item.CompoundValued operator reference left)) }
+{
+    let item = OperatorItem::CompoundValued {
+        operator,
+        reference,
+        left,
+    };
+    let part = Job::Node {
+        name: None,
+        node: right,
+    };
+    Plan::Wait(part, Item::Operator(item))
+}
 
 /// What is done with a value that was got from a reference.
 pub(crate) fn reading_valued<L: Ledger>(
@@ -32,10 +56,8 @@ pub(crate) fn reading_valued<L: Ledger>(
     match reading {
         Reading::Give => Ok(Plan::Ends(Ending::Gives(value))),
         Reading::Callee { node, this } => {
-            let invocation = Invocation::Call {
-                function: value,
-                this,
-            };
+            let function = value;
+            let invocation = Invocation::Call { function, this };
             let given = Values::new(heap.alloc());
             arguments_from(heap, script, body, cells, node, 0, invocation, given, steps)
         }
@@ -44,17 +66,7 @@ pub(crate) fn reading_valued<L: Ledger>(
             operator,
             value: right,
             reference,
-        } => Ok(Plan::Wait(
-            Job::Node {
-                name: None,
-                node: right,
-            },
-            Item::Operator(OperatorItem::CompoundValued {
-                operator,
-                reference,
-                left: value,
-            }),
-        )),
+        } => Ok(wait_for_right(operator, right, reference, value)),
         Reading::Update {
             increment,
             prefix,
@@ -65,15 +77,19 @@ pub(crate) fn reading_valued<L: Ledger>(
                 prefix,
                 reference,
             };
-            convert(
-                heap,
-                script,
-                body,
-                cells,
-                Operation::ToWhole,
-                value,
-                Asked::Value(next),
-                steps,
+            let operation = Operation::ToWhole;
+            let asked = Asked::Value(next);
+            convert(heap, script, body, cells, operation, value, asked, steps)
+        }
+        Reading::Shorthand {
+            node,
+            next,
+            object,
+            key,
+        } => {
+            let made = Made::Plain;
+            property_valued(
+                heap, script, body, cells, node, next, object, key, made, value, steps,
             )
         }
     }

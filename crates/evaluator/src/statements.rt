@@ -2,7 +2,7 @@
 
 ghost use Rattle.std.specs.Prelude.{◌≡◌, zero, None, OnOk, Some, length, slice_get, take};
 ghost use Rattle.property_keys.specs.declared.values.Value.TheVariants as values;
-ghost use Rattle.es_model.specs.Program.{Statements, part};
+ghost use Rattle.es_model.specs.Program.{Statements, done, part};
 ghost use Rattle.es_tree.specs.declared.node.Node.TheVariants as node_of;
 ghost use Rattle.evaluator.specs.Contexts.{context};
 ghost use Rattle.evaluator.specs.Plans.{PlansAt, PlansIn, ended, statement_item};
@@ -22,19 +22,19 @@ use es_tree::{Checked, Node, NodeId, Statement};
 use object_heap::Heap;
 use property_keys::{Ledger, Steps, Value};
 
-fn wait_for(node: NodeId, item: StatementItem) -> Plan
+pub(crate) fn wait_for(node: NodeId, item: StatementItem) -> Plan
     ensures { result ≡ plan.Wait (job.Node None node) (item_of.Statement item) }
 {
     Plan::Wait(Job::Node { name: None, node }, Item::Statement(item))
 }
 
-fn last(node: NodeId) -> Plan
+pub(crate) fn last(node: NodeId) -> Plan
     ensures { result ≡ plan.Last (job.Node None node) }
 {
     Plan::Last(Job::Node { name: None, node })
 }
 
-fn falls() -> Plan
+pub(crate) fn falls() -> Plan
     ensures { result ≡ plan.Ends (ending.Gives values.Undefined) }
 {
     Plan::Ends(Ending::Gives(Value::Undefined))
@@ -43,7 +43,7 @@ fn falls() -> Plan
 // ---- scopes
 
 /// The statements of a block, in a scope of their own, whose end is the end.
-fn block_last<L: Ledger>(
+pub(crate) fn block_last<L: Ledger>(
     heap: &mut Heap,
     script: &Checked,
     body: Running,
@@ -60,7 +60,7 @@ fn block_last<L: Ledger>(
 }
 
 /// The same, and an item of the scope around waits for their end.
-fn block_then<L: Ledger>(
+pub(crate) fn block_then<L: Ledger>(
     heap: &mut Heap,
     script: &Checked,
     body: Running,
@@ -201,7 +201,7 @@ pub(crate) fn round<L: Ledger>(
     }
 }
 
-fn for_again<L: Ledger>(
+pub(crate) fn for_again<L: Ledger>(
     heap: &mut Heap,
     script: &Checked,
     body: Running,
@@ -224,7 +224,7 @@ fn for_again<L: Ledger>(
     }
 }
 
-fn while_again<L: Ledger>(
+pub(crate) fn while_again<L: Ledger>(
     heap: &mut Heap,
     script: &Checked,
     body: Running,
@@ -243,7 +243,7 @@ fn while_again<L: Ledger>(
     }
 }
 
-fn for_begun<L: Ledger>(
+pub(crate) fn for_begun<L: Ledger>(
     heap: &mut Heap,
     script: &Checked,
     body: Running,
@@ -263,7 +263,7 @@ fn for_begun<L: Ledger>(
     }
 }
 
-fn after_statement<L: Ledger>(
+pub(crate) fn after_statement<L: Ledger>(
     heap: &mut Heap,
     script: &Checked,
     body: Running,
@@ -284,27 +284,17 @@ fn after_statement<L: Ledger>(
     }
 }
 
-fn last_ended<L: Ledger>(
-    heap: &mut Heap,
-    script: &Checked,
-    body: Running,
-    cells: &Cells,
-    before: Ending,
-    end: Ending,
-    steps: &mut Steps<L>,
-) -> Result<Plan, Stop>
-    ensures { PlansAt script.now body cells.now heap.old heap.new (λ here. last_ended (ended before) (ended end)) result }
+/// A `finally` has ended: an end of its own takes the place of the one before.
+pub(crate) fn last_ended(before: Ending, end: Ending) -> Ending
+    ensures { last_ended (ended before) (ended end) ≡ done (ended result) }
 {
     match end {
-        Ending::Gives(_) => Ok(Plan::Ends(before)),
-        Ending::Breaks => Ok(Plan::Ends(Ending::Breaks)),
-        Ending::Continues => Ok(Plan::Ends(Ending::Continues)),
-        Ending::Returns(value) => Ok(Plan::Ends(Ending::Returns(value))),
-        Ending::Throws(thrown) => Ok(Plan::Ends(Ending::Throws(thrown))),
+        Ending::Gives(_) => before,
+        Ending::Breaks | Ending::Continues | Ending::Returns(_) | Ending::Throws(_) => end,
     }
 }
 
-fn while_valued<L: Ledger>(
+pub(crate) fn while_valued<L: Ledger>(
     heap: &mut Heap,
     script: &Checked,
     body: Running,
@@ -328,7 +318,7 @@ fn while_valued<L: Ledger>(
     }
 }
 
-fn for_valued<L: Ledger>(
+pub(crate) fn for_valued<L: Ledger>(
     heap: &mut Heap,
     script: &Checked,
     body: Running,
@@ -353,7 +343,7 @@ fn for_valued<L: Ledger>(
     }
 }
 
-fn for_stepped<L: Ledger>(
+pub(crate) fn for_stepped<L: Ledger>(
     heap: &mut Heap,
     script: &Checked,
     body: Running,
@@ -370,7 +360,7 @@ fn for_stepped<L: Ledger>(
     }
 }
 
-fn for_statement<L: Ledger>(
+pub(crate) fn for_statement<L: Ledger>(
     heap: &mut Heap,
     script: &Checked,
     body: Running,
@@ -392,7 +382,7 @@ fn for_statement<L: Ledger>(
 
 // ---- if (14.6), return (14.10), throw (14.14)
 
-fn if_valued<L: Ledger>(
+pub(crate) fn if_valued<L: Ledger>(
     heap: &mut Heap,
     script: &Checked,
     body: Running,
@@ -418,7 +408,7 @@ fn if_valued<L: Ledger>(
     }
 }
 
-fn return_valued<L: Ledger>(
+pub(crate) fn return_valued<L: Ledger>(
     heap: &mut Heap,
     script: &Checked,
     body: Running,
@@ -434,7 +424,7 @@ fn return_valued<L: Ledger>(
     }
 }
 
-fn throw_valued<L: Ledger>(
+pub(crate) fn throw_valued<L: Ledger>(
     heap: &mut Heap,
     script: &Checked,
     body: Running,

@@ -5,6 +5,7 @@ ghost use Rattle.es_model.specs.Changes.{Interning, changed};
 ghost use Rattle.es_model.specs.World.{World, number_of};
 ghost use Rattle.evaluator.specs.Assignments.{stepped};
 ghost use Rattle.evaluator.specs.Operators.{goes_right};
+ghost use Rattle.evaluator.specs.References.{object_or_undefined};
 ghost use Rattle.evaluator.specs.declared.references.Arithmetic.TheVariants as arithmetic;
 ghost use Rattle.evaluator.specs.Values.{calculate, is_length, is_nullish, is_own_key, is_text, type_name, whole_of};
 ghost use Rattle.object_heap.specs.Stands.{Goes, StandsFor};
@@ -14,7 +15,17 @@ use crate::texts::{text_len, text_unit, units_of};
 use es_model::StartText;
 use es_tree::ShortOperator;
 use object_heap::Heap;
-use property_keys::{MOST_WHOLE, NoMemory, PropKey, TextId, Value};
+use property_keys::{MOST_WHOLE, NoMemory, ObjectId, PropKey, TextId, Value};
+
+/// A value, or undefined.
+pub(crate) fn object_or_undefined(object: Option<ObjectId>) -> Value
+    ensures { result ≡ object_or_undefined object }
+{
+    match object {
+        None => Value::Undefined,
+        Some(object) => Value::Object(object),
+    }
+}
 
 fn is_nullish(value: Value) -> bool
     ensures { result ≡ is_nullish value }

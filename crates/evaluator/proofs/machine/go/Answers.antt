@@ -1,0 +1,56 @@
+use Rattle.std.proofs.Common.{◌≡◌, ◌≤◌, ◌+◌, ◌*◌, arith, ◌∙◌, ap, sym, subst, Ok, length}
+use Rattle.std.proofs.lemmas.Bool.{OnFalse_at, OnTrue_at}
+use Rattle.es_model.specs.Weights.{renewed}
+use Rattle.evaluator.specs.Machine.{steps_for}
+use Rattle.evaluator.proofs.Bounded.{job_server, job_serves, some_left, steps_enough}
+use Rattle.evaluator.proofs.Looped.{frame_turn, stood_asks, stood_ends, stood_first, stood_on, stood_stops}
+use Rattle.evaluator.proofs.machine.go.Goals as goal
+
+pub steps-init : goal.steps-init
+steps-init g c = record {
+  stacked = c.requires;
+  stood = λ S n w is same h.
+      let script = c.args.script.now in
+      let turns : c.left.result ≡ w.turns = c.left.ensures ∙ c.turns_ref.ensures w h in
+      let long : c.len.result ≡ length c.args.pending.items = omega (arith, c.len.ensures, c.args.pending.ok.0) in
+      let all = c.new-left.ensures ∙ ap (λ t. steps_for t c.len.result c.most_definitions.result) turns ∙ ap (λ k. steps_for w.turns k c.most_definitions.result) long
+      ∙ ap (steps_for w.turns (length c.args.pending.items)) c.most_definitions.ensures in
+      let most = 2 * (renewed script + (2 * renewed script) * w.turns + renewed script * length c.args.pending.items) + 3 in
+      let some = subst (λ x. most + length c.args.pending.items ≤ x) (sym all) (steps_enough script w.turns (length c.args.pending.items)) in
+      stood_first c.new-left.result most script c.args.body S n c.args.heap.now w c.args.cells c.args.pending.items c.args.current some h;
+}
+
+-- a step is left in each world that the heap stands for
+pub returns-then-not-take_one : goal.returns-then-not-take_one
+returns-then-not-take_one g c = λ S n w is same h.
+    let some = some_left c.steps.left c.args.script.now c.args.body 0 c.args.heap.now c.steps.heap w c.args.cells c.args.pending.items c.args.current c.steps.cells c.steps.pending.items c.steps.current same (c.steps.invariant.stood job_server 0 w job_serves same h) in
+    let none = OnFalse_at c.if-not-take_one.true c.take_one.ensures.none in absurd (omega (arith, some, none))
+
+pub step-requires : goal.step-requires
+step-requires g c = c.steps.invariant.stacked
+
+pub steps-smaller : goal.steps-smaller
+steps-smaller g c = let one = OnTrue_at c.if-not-take_one.false c.take_one.ensures.one in omega (arith, one)
+
+pub steps-preserved : goal.steps-preserved
+steps-preserved g c = record {
+  stacked = c.in-Ok-GoOn.ensures.stacked;
+  stood = λ S n w is same h.
+      stood_on c.steps.left c.take_one.new.self _ c.args.script.now c.args.body S n c.args.heap.now c.steps.heap c.step.new.heap w c.args.cells c.args.pending.items c.args.current c.steps.cells c.step.new.cells c.steps.pending.items c.step.new.pending.items c.steps.current c.in-Ok-GoOn.next c.step.result (OnTrue_at c.if-not-take_one.false c.take_one.ensures.one) same (c.steps.invariant.stood S n w is same h)
+      (c.in-Ok-GoOn.is ∙ ap (λ x. Ok x) c.in-Ok-GoOn.field-0-is) (λ v sv hv. c.step.ensures.next S n v is sv hv);
+}
+
+pub returns-in-Ok-Asks : goal.returns-in-Ok-Asks
+returns-in-Ok-Asks g c = λ S n w is same h.
+    frame_turn c.args.script.now c.args.body S n c.args.heap.now c.step.new.heap w _ c.step.new.cells c.step.new.pending.items c.in-Ok-Asks.request c.in-Ok-Asks.asked c.waiting.result c.waiting.ensures
+    (stood_asks (c.steps.left + 3) _ c.args.script.now c.args.body S n c.args.heap.now c.steps.heap c.step.new.heap w c.args.cells c.args.pending.items c.args.current c.steps.cells c.step.new.cells c.steps.pending.items c.step.new.pending.items c.steps.current c.in-Ok-Asks.request c.in-Ok-Asks.asked c.step.result same (c.steps.invariant.stood S n w is same h)
+    (c.in-Ok-Asks.is ∙ ap (λ x. Ok x) c.in-Ok-Asks.field-0-is) (λ v sv hv. c.step.ensures.next S n v is sv hv))
+
+pub returns-in-Ok-Ends : goal.returns-in-Ok-Ends
+returns-in-Ok-Ends g c = λ S n w is same h.
+    stood_ends (c.steps.left + 3) _ c.args.script.now c.args.body S n c.args.heap.now c.steps.heap c.step.new.heap w c.args.cells c.args.pending.items c.args.current c.steps.cells c.step.new.cells c.steps.pending.items c.step.new.pending.items c.steps.current c.in-Ok-Ends.answer c.step.result same (c.steps.invariant.stood S n w is same h)
+    (c.in-Ok-Ends.is ∙ ap (λ x. Ok x) c.in-Ok-Ends.field-0-is) (λ v sv hv. c.step.ensures.next S n v is sv hv)
+
+pub returns-in-Err : goal.returns-in-Err
+returns-in-Err g c = λ S n w is same h.
+    stood_stops (c.steps.left + 3) _ c.args.script.now c.args.body S n c.args.heap.now c.steps.heap c.step.new.heap w c.args.cells c.args.pending.items c.args.current c.steps.cells c.step.new.cells c.steps.pending.items c.step.new.pending.items c.steps.current c.in-Err.stop c.step.result same (c.steps.invariant.stood S n w is same h) c.in-Err.is (λ v sv hv. c.step.ensures.next S n v is sv hv)

@@ -1,0 +1,19 @@
+use Rattle.std.proofs.Common.{◌≡◌, ℕ, ◌+◌, ◌*◌, length}
+use Rattle.es_model.specs.Program.{Server}
+use Rattle.es_model.specs.Weights.{renewed}
+use Rattle.es_model.specs.World.{World}
+use Rattle.object_heap.specs.Stands.{StandsFor}
+use Rattle.evaluator.specs.Frames.{IsStacked}
+use Rattle.evaluator.specs.Machine.{IsServer}
+use Rattle.evaluator.proofs.Looped.{Stood}
+use Rattle.evaluator.proofs.machine.go.Given as goal
+
+abbrev pub invariant-steps : goal.invariant-steps
+invariant-steps g l = record {
+  stacked : IsStacked 0 l.pending.items (length l.cells);
+  stood : (S : Server) (n : ℕ) (w : World) → IsServer S → w.script ≡ l.script → StandsFor l.fn.heap w →
+      Stood (l.left + 3) (2 * (renewed l.script + (2 * renewed l.script) * w.turns + renewed l.script * length l.fn.pending.items) + 3) l.script l.body S n l.fn.heap l.heap w l.fn.cells l.fn.pending.items l.fn.current l.cells l.pending.items l.current;
+}
+
+abbrev pub decreases-steps : goal.decreases-steps
+decreases-steps g l = l.left

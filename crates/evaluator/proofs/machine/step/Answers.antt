@@ -1,0 +1,31 @@
+use Rattle.std.proofs.Common.{◌≡◌, ◌∙◌, length, arith, sym}
+use Rattle.std.proofs.lemmas.List.{append-nil}
+use Rattle.evaluator.specs.Contexts.{context}
+use Rattle.evaluator.proofs.Driven.{end_step, pop_step, popped_stack, stacked_none}
+use Rattle.evaluator.proofs.machine.step.Goals as goal
+
+pub returns-in-At-clause-next : goal.returns-in-At-clause-next
+returns-in-At-clause-next g c = λ S n w is same h. rw c.in-At.is (c.advance.ensures.next S n w is same h)
+
+pub returns-in-None-clause-next : goal.returns-in-None-clause-next
+returns-in-None-clause-next g c = λ S n w is same h.
+    let here = context c.args.script.now c.args.body c.args.cells.now in
+    let none : length c.args.pending.now.items ≡ 0 = omega (arith, c.args.pending.now.ok.0, c.in-None.ensures.cases.0) in
+    rw c.in-EndedBy.is
+    (end_step here S n c.args.heap.now w c.args.pending.now.items c.pop.new.self.items c.in-EndedBy.end c.end_of_body.result none c.end_of_body.ensures h)
+
+pub returns-in-None-clause-stacked : goal.returns-in-None-clause-stacked
+returns-in-None-clause-stacked g c =
+    stacked_none c.args.pending.now.items c.pop.new.self.items _ c.requires (sym (append-nil c.pop.new.self.items) ∙ sym c.in-None.ensures.items)
+
+pub wake-requires : goal.wake-requires
+wake-requires g c =
+    let stack = popped_stack c.args.pending.now.items c.pop.new.self.items c.in-Some.entry (length c.args.cells.now) c.in-Some.ensures.items c.requires in record { high = stack.1; stacked = stack.0 }
+
+pub returns-in-Some-clause-next : goal.returns-in-Some-clause-next
+returns-in-Some-clause-next g c = λ S n w is same h.
+    let here = context c.args.script.now c.args.body c.args.cells.now in
+    let inner = context c.args.script.now c.args.body c.wake.new.cells in
+    rw c.in-EndedBy.is
+    (pop_step here inner S n c.args.heap.now c.wake.new.heap w c.args.pending.now.items c.pop.new.self.items c.wake.new.pending.items c.in-Some.entry c.in-EndedBy.end c.wake.result c.in-Some.ensures.items
+    (c.wake.ensures.next S n w same h))

@@ -1,0 +1,47 @@
+use Rattle.std.proofs.Common.{◌+◌, sym, subst, refl, arith, length}
+use Rattle.std.proofs.Math.Seq.{take-length}
+use Rattle.es_model.specs.Completions.{answered}
+use Rattle.es_model.specs.Stages.{stage_of}
+use Rattle.evaluator.specs.Contexts.{context}
+use Rattle.evaluator.specs.Frames.{IsStacked}
+use Rattle.evaluator.specs.Machine.{IsInner}
+use Rattle.evaluator.specs.Plans.{asked_program}
+use Rattle.evaluator.proofs.Looped.{asked_step, asked_stops, err_turn}
+use Rattle.evaluator.proofs.machine.take_answer.Goals as goal
+
+pub returns-in-Err : goal.returns-in-Err
+returns-in-Err g c = λ S n w is same h.
+    let here = context c.args.script.now c.args.body c.args.cells in
+    let plans = rw c.in-Err.is at (c.asked_plan.ensures w h) in
+    asked_stops c.args.script.now c.args.body c.args.cells S n c.args.heap.now c.asked_plan.new.heap w (asked_program here c.args.asked (answered c.args.answer)) c.args.pending.items c.in-Err.stop plans
+
+pub follow-requires-clause-fewer : goal.follow-requires-clause-fewer
+follow-requires-clause-fewer g c = omega arith
+
+pub follow-requires-clause-stacked : goal.follow-requires-clause-stacked
+follow-requires-clause-stacked g c = subst (λ d. IsStacked 0 c.args.pending.items d) (sym c.len-depth.ensures) c.requires
+
+pub returns-in-Err-follow : goal.returns-in-Err-follow
+returns-in-Err-follow g c = λ S n w is same h.
+    let here = context c.args.script.now c.args.body c.args.cells in
+    let plans = rw c.in-Ok.is at (c.asked_plan.ensures w h) in
+    let p = asked_program here c.args.asked (answered c.args.answer) in
+    let scope : IsInner here here = record { same = refl; front = take-length c.args.cells } in
+    let steps = asked_step (length c.args.pending.items + 2) here S n c.args.heap.now c.asked_plan.new.heap w p c.args.pending.items c.follow.new.pending.items c.follow.result
+    (λ st. c.follow.ensures.next here here S n c.args.heap.now c.asked_plan.new.heap w (stage_of p w) scope c.len-depth.ensures c.len-depth.ensures st plans) in
+    let stops = rw c.in-Err-follow.is at steps in
+    err_turn (length c.args.pending.items + 2) c.args.script.now c.args.body c.args.cells S n _ c.args.heap.now c.asked_plan.new.heap w c.follow.new.pending.items c.in-Err-follow.stop stops
+
+pub continue_with-requires : goal.continue_with-requires
+continue_with-requires g c = subst (λ d. IsStacked 0 c.follow.new.pending.items d) c.len-depth.ensures c.in-Ok-follow.ensures.stacked
+
+pub returns-in-Ok-follow : goal.returns-in-Ok-follow
+returns-in-Ok-follow g c = λ S n w is same h.
+    let here = context c.args.script.now c.args.body c.args.cells in
+    let plans = rw c.in-Ok.is at (c.asked_plan.ensures w h) in
+    let p = asked_program here c.args.asked (answered c.args.answer) in
+    let scope : IsInner here here = record { same = refl; front = take-length c.args.cells } in
+    let steps = asked_step (length c.args.pending.items + 2) here S n c.args.heap.now c.asked_plan.new.heap w p c.args.pending.items c.follow.new.pending.items c.follow.result
+    (λ st. c.follow.ensures.next here here S n c.args.heap.now c.asked_plan.new.heap w (stage_of p w) scope c.len-depth.ensures c.len-depth.ensures st plans) in
+    let goes = rw c.in-Ok-follow.is at steps in
+    c.continue_with.ensures S n _ _ c.args.heap.now w is same goes

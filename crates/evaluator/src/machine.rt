@@ -1,0 +1,332 @@
+//! The machine that evaluates a running body between two requests, and the calls of the crate.
+
+ghost use Rattle.std.specs.Prelude.{◌≡◌, ◌++◌, ◌∷◌, ◌+◌, ◌≤◌, [], ℕ, OnOk, Ok, length};
+ghost use Rattle.es_model.specs.Completions.{answered};
+ghost use Rattle.es_model.specs.Program.{Outcome, Server, run as run_of};
+ghost use Rattle.es_model.specs.Stages.{Stage, outcome_at, world_at};
+ghost use Rattle.es_model.specs.Unwinding.{Stays};
+ghost use Rattle.es_model.specs.World.{World};
+ghost use Rattle.es_model.specs.declared.running.Part.TheVariants as part;
+ghost use Rattle.evaluator.specs.Contexts.{Context, context};
+ghost use Rattle.evaluator.specs.Frames.{IsStacked};
+ghost use Rattle.evaluator.specs.Functions.{call_program, script_body, script_program};
+ghost use Rattle.evaluator.specs.Machine.{Declares, IsInner, IsNext, IsServer, eval_rest, height, meaning, pending_rest, unwound};
+ghost use Rattle.evaluator.specs.Plans.{Plans, asked_program, ended, task_of};
+ghost use Rattle.evaluator.specs.declared.frames.Current.TheVariants.{At};
+ghost use Rattle.evaluator.specs.declared.items.Job.TheVariants as job;
+ghost use Rattle.object_heap.specs.Stands.{HeapView, StandsFor};
+ghost use Rattle.object_heap.specs.Turns.{IsTurnOf};
+
+use crate::answers::asked_plan;
+use crate::cells::{Cells, make_cells};
+use crate::countdown::Countdown;
+use crate::endings::end_of_body;
+use crate::frames::{Current, EvalFrame, Next, Pending};
+use crate::items::{Asked, Ending, Item, Job, Plan};
+use crate::jobs::{item_plan, job_plan};
+use es_model::{Completion, Intrinsic, Part, Running, Stop, Turn, Values};
+use es_tree::{Checked, FunctionNo};
+use object_heap::Heap;
+use property_keys::{Ledger, NoMemory, ObjectId, Steps, Value};
+
+// ---- one step
+
+fn wait(pending: &mut Vec<Pending>, entry: Pending) -> Result<(), NoMemory>
+    ensures { OnOk result (pending.new.items ≡ pending.old.items ++ entry ∷ []) }
+{
+    match pending.push(entry) {
+        Ok(()) => Ok(()),
+        Err(_) => Err(NoMemory),
+    }
+}
+
+/// Follows a plan that was made where so many cells were in force, and so many are now: an item may come to wait.
+fn follow(pending: &mut Vec<Pending>, before: usize, depth: usize, plan: Plan) -> Result<Next, Stop>
+    requires fewer { before ≤ depth }
+    requires stacked { IsStacked 0 pending.old.items before }
+    ensures next { (outer inner : Context) (S : Server) (n : ℕ) (old new : HeapView) (w : World) (stage : Stage) → IsInner outer inner → before ≡ length outer.cells → depth ≡ length inner.cells → Stays w (world_at stage) → Plans outer inner old new w stage (Ok plan) → IsNext inner S n (length pending.old.items + 2) (unwound inner S n pending.old.items (outcome_at S n stage)) old new w pending.new.items result }
+    ensures stacked { OnOk result (IsStacked 0 pending.new.items depth) }
+{
+    match plan {
+        Plan::Wait(job, item) => {
+            wait(pending, Pending { item, depth })?;
+            Ok(Next::GoOn(Current::At(job)))
+        }
+        Plan::Enter(job, statement, _) => {
+            let item = Item::Statement(statement);
+            wait(
+                pending,
+                Pending {
+                    item,
+                    depth: before,
+                },
+            )?;
+            Ok(Next::GoOn(Current::At(job)))
+        }
+        Plan::Last(job) => Ok(Next::GoOn(Current::At(job))),
+        Plan::Ask(request, asked) => Ok(Next::Asks(request, asked)),
+        Plan::Ends(end) => Ok(Next::GoOn(Current::EndedBy(end))),
+    }
+}
+
+/// A job in hand.
+fn advance<L: Ledger>(
+    heap: &mut Heap,
+    script: &Checked,
+    body: Running,
+    cells: &mut Cells,
+    pending: &mut Vec<Pending>,
+    job: Job,
+    steps: &mut Steps<L>,
+) -> Result<Next, Stop>
+    requires { IsStacked 0 pending.old.items (length cells.old) }
+    ensures next { (S : Server) (n : ℕ) (w : World) → IsServer S → w.script ≡ script.now → StandsFor heap.old w → IsNext (context script.now body cells.new) S n (length pending.old.items + 2) (unwound (context script.now body cells.old) S n pending.old.items (S n (task_of (context script.now body cells.old) job) w)) heap.old heap.new w pending.new.items result }
+    ensures stacked { OnOk result (IsStacked 0 pending.new.items (length cells.new)) }
+{
+    let before = cells.len();
+    match job_plan(heap, script, body, cells, job, steps) {
+        Err(stop) => Err(stop),
+        Ok(plan) => follow(pending, before, cells.len(), plan),
+    }
+}
+
+/// An item goes on with the end of the part that it waited for.
+fn wake<L: Ledger>(
+    heap: &mut Heap,
+    script: &Checked,
+    body: Running,
+    cells: &mut Cells,
+    pending: &mut Vec<Pending>,
+    entry: Pending,
+    end: Ending,
+    steps: &mut Steps<L>,
+) -> Result<Next, Stop>
+    requires high { entry.depth ≤ length cells.old }
+    requires stacked { IsStacked 0 pending.old.items entry.depth }
+    ensures next { (S : Server) (n : ℕ) (w : World) → w.script ≡ script.now → StandsFor heap.old w → IsNext (context script.now body cells.new) S n (length pending.old.items + 2) (unwound (context script.now body cells.old) S n pending.old.items (pending_rest (context script.now body cells.old) S n entry (ended end) w)) heap.old heap.new w pending.new.items result }
+    ensures stacked { OnOk result (IsStacked 0 pending.new.items (length cells.new)) }
+{
+    let Pending { item, depth } = entry;
+    cells.truncate(depth);
+    match item_plan(heap, script, body, cells, item, end, steps) {
+        Err(stop) => Err(stop),
+        Ok(plan) => follow(pending, depth, cells.len(), plan),
+    }
+}
+
+/// One job, or one end.
+fn step<L: Ledger>(
+    heap: &mut Heap,
+    script: &Checked,
+    body: Running,
+    cells: &mut Cells,
+    pending: &mut Vec<Pending>,
+    current: Current,
+    steps: &mut Steps<L>,
+) -> Result<Next, Stop>
+    requires { IsStacked 0 pending.old.items (length cells.old) }
+    ensures next { (S : Server) (n : ℕ) (w : World) → IsServer S → w.script ≡ script.now → StandsFor heap.old w → IsNext (context script.now body cells.new) S n (height pending.old.items current) (meaning (context script.now body cells.old) S n pending.old.items current w) heap.old heap.new w pending.new.items result }
+    ensures stacked { OnOk result (IsStacked 0 pending.new.items (length cells.new)) }
+{
+    match current {
+        Current::At(job) => advance(heap, script, body, cells, pending, job, steps),
+        Current::EndedBy(end) => match pending.pop() {
+            None => Ok(Next::Ends(end_of_body(end))),
+            Some(entry) => wake(heap, script, body, cells, pending, entry, end, steps),
+        },
+    }
+}
+
+// ---- until a request or the end
+
+fn waiting(body: Running, cells: Cells, pending: Vec<Pending>, asked: Asked) -> EvalFrame
+    requires { IsStacked 0 pending.items (length cells) }
+    ensures { result ≡ record { body = body; cells = cells; pending = pending.items; asked = asked } }
+{
+    EvalFrame {
+        body,
+        cells,
+        pending,
+        asked,
+    }
+}
+
+/// Evaluates until a request or the end of the body.
+fn go<L: Ledger>(
+    heap: &mut Heap,
+    script: &Checked,
+    body: Running,
+    mut cells: Cells,
+    mut pending: Vec<Pending>,
+    mut current: Current,
+    steps: &mut Steps<L>,
+) -> Result<Turn<EvalFrame>, Stop>
+    requires { IsStacked 0 pending.items (length cells) }
+    ensures { (S : Server) (n : ℕ) (w : World) → IsServer S → w.script ≡ script.now → StandsFor heap.old w → IsTurnOf (eval_rest script.now) heap.old heap.new w S n (meaning (context script.now body cells) S n pending.items current w) result }
+{
+    let mut left = Countdown::new(
+        heap.turns_ref().left(),
+        pending.len(),
+        script.most_definitions(),
+    );
+    'steps: loop {
+        if !left.take_one() {
+            // There are steps enough: no heap that stands for a world of the script comes here.
+            return Err(Stop::Halted);
+        }
+        match step(heap, script, body, &mut cells, &mut pending, current, steps) {
+            Ok(Next::GoOn(next)) => current = next,
+            Ok(Next::Asks(request, asked)) => {
+                return Ok(Turn::Ask(request, waiting(body, cells, pending, asked)));
+            }
+            Ok(Next::Ends(answer)) => return Ok(Turn::Done(answer)),
+            Err(stop) => return Err(stop),
+        }
+    }
+}
+
+// ---- the calls of the crate
+
+/// The declared functions of the script, up to the first that is made: each takes a turn, and is not written yet.
+fn declare_functions(heap: &mut Heap, script: &Checked) -> Result<Option<Completion>, Stop>
+    ensures { (here : Context) (w : World) → StandsFor heap.old w → Declares here script.now.script.declared heap.old heap.new w result }
+{
+    let declared = &script.script().declared;
+    for i in 0..declared.len() {
+        if declared.at(i).is_last {
+            return match heap.charge(1) {
+                Err(_) => Err(Stop::Halted),
+                Ok(()) => Ok(Some(Completion::Throw(Value::Undefined))),
+            };
+        }
+    }
+    Ok(None)
+}
+
+/// The script's own code as a body.
+fn script_running(script: &Checked) -> Running
+    ensures { result ≡ script_body script.now }
+{
+    Running {
+        function: None,
+        callee: None,
+        arguments: None,
+        this: Value::Object(Intrinsic::Global.object()),
+        strict: script.strict(),
+    }
+}
+
+/// The statements of the script. Its own names are in no frame.
+fn run_statements<L: Ledger>(
+    heap: &mut Heap,
+    script: &Checked,
+    steps: &mut Steps<L>,
+) -> Result<Turn<EvalFrame>, Stop>
+    ensures { (S : Server) (n : ℕ) (w : World) → IsServer S → w.script ≡ script.now → StandsFor heap.old w → IsTurnOf (eval_rest script.now) heap.old heap.new w S n (meaning (context script.now (script_body script.now) []) S n [] (At (job.Statements part.Script 0)) w) result }
+{
+    let body = script_running(script);
+    let cells = Cells::new(heap.alloc());
+    let pending = Vec::new(heap.alloc());
+    let first = Current::At(Job::Statements(Part::Script, 0));
+    go(heap, script, body, cells, pending, first, steps)
+}
+
+/// The first turn of a script (ECMA-262, 16.1.6). Its top scope's names get cells without a value, which come first in the world's.
+///
+/// Halted comes exactly where a charge does not fit: one turn for each node that is evaluated, for each declared function and for each primitive base's prototype.
+/// Declared functions are not made yet, and throw undefined here.
+pub fn start_script<L: Ledger>(
+    heap: &mut Heap,
+    script: &Checked,
+    steps: &mut Steps<L>,
+) -> Result<Turn<EvalFrame>, Stop>
+    ensures { (S : Server) (n : ℕ) (w : World) → IsServer S → w.script ≡ script.now → StandsFor heap.old w → IsTurnOf (eval_rest script.now) heap.old heap.new w S n (run_of S (script_program script.now) n w) result }
+{
+    let mut top = Cells::new(heap.alloc());
+    make_cells(heap, &mut top, script.top_names())?;
+    match declare_functions(heap, script) {
+        Err(stop) => Err(stop),
+        Ok(Some(end)) => Ok(Turn::Done(end)),
+        Ok(None) => run_statements(heap, script, steps),
+    }
+}
+
+/// The first turn of the body of a function of the script, after it is entered ([[Call]], ECMA-262, 10.2.1): the function, its object, the receiver and the
+/// arguments. Bodies are not evaluated yet, and throw undefined.
+pub fn start_body<L: Ledger>(
+    heap: &mut Heap,
+    script: &Checked,
+    function: FunctionNo,
+    callee: ObjectId,
+    this: Value,
+    arguments: Values,
+    steps: &mut Steps<L>,
+) -> Result<Turn<EvalFrame>, Stop>
+    ensures { (S : Server) (n : ℕ) (w : World) → IsServer S → w.script ≡ script.now → StandsFor heap.old w → IsTurnOf (eval_rest script.now) heap.old heap.new w S n (run_of S (call_program script.now function callee this arguments) n w) result }
+{
+    Ok(Turn::Done(Completion::Throw(Value::Undefined)))
+}
+
+fn continue_with<L: Ledger>(
+    heap: &mut Heap,
+    script: &Checked,
+    body: Running,
+    cells: Cells,
+    pending: Vec<Pending>,
+    next: Next,
+    steps: &mut Steps<L>,
+) -> Result<Turn<EvalFrame>, Stop>
+    requires { IsStacked 0 pending.items (length cells) }
+    ensures { (S : Server) (n a : ℕ) (o : Outcome) (old : HeapView) (w : World) → IsServer S → w.script ≡ script.now → IsNext (context script.now body cells) S n a o old heap.old w pending.items (Ok next) → IsTurnOf (eval_rest script.now) old heap.new w S n o result }
+{
+    match next {
+        Next::GoOn(current) => go(heap, script, body, cells, pending, current, steps),
+        Next::Asks(request, asked) => Ok(Turn::Ask(request, waiting(body, cells, pending, asked))),
+        Next::Ends(answer) => Ok(Turn::Done(answer)),
+    }
+}
+
+/// A body goes on with the answer to what it asked.
+fn take_answer<L: Ledger>(
+    heap: &mut Heap,
+    script: &Checked,
+    body: Running,
+    cells: Cells,
+    mut pending: Vec<Pending>,
+    asked: Asked,
+    answer: Completion,
+    steps: &mut Steps<L>,
+) -> Result<Turn<EvalFrame>, Stop>
+    requires { IsStacked 0 pending.items (length cells) }
+    ensures { (S : Server) (n : ℕ) (w : World) → IsServer S → w.script ≡ script.now → StandsFor heap.old w → IsTurnOf (eval_rest script.now) heap.old heap.new w S n (unwound (context script.now body cells) S n pending.items (run_of S (asked_program (context script.now body cells) asked (answered answer)) n w)) result }
+{
+    let depth = cells.len();
+    match asked_plan(heap, script, body, &cells, asked, answer, steps) {
+        Err(stop) => Err(stop),
+        Ok(plan) => match follow(&mut pending, depth, depth, plan) {
+            Err(stop) => Err(stop),
+            Ok(next) => continue_with(heap, script, body, cells, pending, next, steps),
+        },
+    }
+}
+
+/// The next turn of a body, with the answer to what it asked.
+///
+/// Halted comes exactly where a charge does not fit.
+pub fn resume<L: Ledger>(
+    heap: &mut Heap,
+    script: &Checked,
+    frame: EvalFrame,
+    answer: Completion,
+    steps: &mut Steps<L>,
+) -> Result<Turn<EvalFrame>, Stop>
+    ensures { (S : Server) (n : ℕ) (w : World) → IsServer S → w.script ≡ script.now → StandsFor heap.old w → IsTurnOf (eval_rest script.now) heap.old heap.new w S n (eval_rest script.now frame S n (answered answer) w) result }
+{
+    let EvalFrame {
+        body,
+        cells,
+        pending,
+        asked,
+    } = frame;
+    take_answer(heap, script, body, cells, pending, asked, answer, steps)
+}
