@@ -22,6 +22,7 @@ pub mod OperatorsWithin
 pub mod Planned
 pub mod ReferencesKept
 pub mod ReferencesWithin
+pub mod Sounding
 pub mod Started
 pub mod StatementsKept
 pub mod StatementsWithin

@@ -40,7 +40,7 @@ rest_of script = part (Statements (script_body script) [] part_of.Script 0) body
 abbrev pub top_of : Tree → World → Context
 top_of script w = with_cells (start script) ([] ++ fresh_cells (top_names script) w)
 
-script-stage : (script : Tree) (w : World) → stage_of (script_program script) w ≡ stage_of (declare_functions (top_of script w) script.script.declared (rest_of script)) (world_with (top_names script) w)
+pub script-stage : (script : Tree) (w : World) → stage_of (script_program script) w ≡ stage_of (declare_functions (top_of script w) script.script.declared (rest_of script)) (world_with (top_names script) w)
 script-stage script w = cells_stage (top_names script) [] (λ cells. declare_functions (with_cells (start script) cells) script.script.declared (rest_of script)) w
 
 -- a stage at which nothing was printed and the script is the same

@@ -96,7 +96,7 @@ declare_functions-kept : (w : World) (here : Context) (ds : List DeclaredFunctio
 declare_functions-kept w here [] next s f = f w s (later_none w)
 declare_functions-kept w here (d ∷ ds) next s f = kept-if w d.is_last _ _ (charged-kept w _ s (λ v sv l. (done-kept v _ sv tt))) (declare_functions-kept w here ds next s f)
 
-script-running : (w : World) → IsSound w → IsKnownRunning w.script w.lists (script_body w.script)
+pub script-running : (w : World) → IsSound w → IsKnownRunning w.script w.lists (script_body w.script)
 script-running w s = record { function = tt; callee = tt; arguments = tt; this = global-there w s }
 
 pub script-kept : (w : World) → IsSound w → IsKept IsKnownCompletion (script_program w.script) w

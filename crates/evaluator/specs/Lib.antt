@@ -12,6 +12,7 @@ pub mod Operators
 pub mod Plans
 pub mod References
 pub mod Scopes
+pub mod Soundness
 pub mod Statements
 pub mod Tasks
 pub mod Values

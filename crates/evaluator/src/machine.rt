@@ -1,9 +1,13 @@
 //! The machine that evaluates a running body between two requests, and the calls of the crate.
 
-ghost use Rattle.std.specs.Prelude.{◌≡◌, ◌++◌, ◌∷◌, ◌+◌, ◌≤◌, [], ℕ, OnOk, Ok, length};
+ghost use Rattle.std.specs.Prelude.{◌≡◌, ◌++◌, ◌∷◌, ◌+◌, ◌<◌, ◌≤◌, [], ℕ, OnOk, Ok, length};
 ghost use Rattle.es_model.specs.Completions.{answered};
-ghost use Rattle.es_model.specs.Program.{Outcome, Server, run as run_of};
-ghost use Rattle.es_model.specs.Stages.{Stage, outcome_at, world_at};
+ghost use Rattle.es_model.specs.Fits.{IsKnownCompletion};
+ghost use Rattle.es_model.specs.Kept.{IsKept};
+ghost use Rattle.es_model.specs.Known.{AreKnown, IsKnown, IsObject};
+ghost use Rattle.es_model.specs.Program.{Outcome, Program, Server, run as run_of};
+ghost use Rattle.es_model.specs.Sound.{IsSound};
+ghost use Rattle.es_model.specs.Stages.{Stage, outcome_at, stage_of, world_at};
 ghost use Rattle.es_model.specs.Unwinding.{Stays};
 ghost use Rattle.es_model.specs.World.{World};
 ghost use Rattle.es_model.specs.declared.running.Part.TheVariants as part;
@@ -12,7 +16,8 @@ ghost use Rattle.evaluator.specs.Frames.{IsStacked};
 ghost use Rattle.evaluator.specs.Functions.{call_program, script_body, script_program};
 ghost use Rattle.evaluator.specs.Machine.{Declares, IsInner, IsNext, IsServer, eval_rest, height, meaning, pending_rest, unwound};
 ghost use Rattle.evaluator.specs.Plans.{Plans, asked_program, ended, task_of};
-ghost use Rattle.evaluator.specs.declared.frames.Current.TheVariants.{At};
+ghost use Rattle.evaluator.specs.Soundness.{KeepsCurrent, KeepsItem, KeepsItems, KeepsRest, StaysSoundNext, StaysSoundTurn};
+ghost use Rattle.evaluator.specs.declared.frames.Current.TheVariants.{At, EndedBy};
 ghost use Rattle.evaluator.specs.declared.items.Job.TheVariants as job;
 ghost use Rattle.object_heap.specs.Stands.{HeapView, StandsFor};
 ghost use Rattle.object_heap.specs.Turns.{IsTurnOf};
@@ -45,6 +50,7 @@ fn follow(pending: &mut Vec<Pending>, before: usize, depth: usize, plan: Plan) -
     requires fewer { before ≤ depth }
     requires stacked { IsStacked 0 pending.old.items before }
     ensures next { (outer inner : Context) (S : Server) (n : ℕ) (old new : HeapView) (w : World) (stage : Stage) → IsInner outer inner → before ≡ length outer.cells → depth ≡ length inner.cells → Stays w (world_at stage) → Plans outer inner old new w stage (Ok plan) → IsNext inner S n (length pending.old.items + 2) (unwound inner S n pending.old.items (outcome_at S n stage)) old new w pending.new.items result }
+    ensures sound { (outer inner : Context) (p : Program) (old new : HeapView) (w : World) → IsInner outer inner → before ≡ length outer.cells → depth ≡ length inner.cells → IsKept IsKnownCompletion p w → KeepsItems outer w pending.old.items → Plans outer inner old new w (stage_of p w) (Ok plan) → StaysSoundNext inner old new w pending.new.items result }
     ensures stacked { OnOk result (IsStacked 0 pending.new.items depth) }
 {
     match plan {
@@ -81,6 +87,7 @@ fn advance<L: Ledger>(
 ) -> Result<Next, Stop>
     requires { IsStacked 0 pending.old.items (length cells.old) }
     ensures next { (S : Server) (n : ℕ) (w : World) → IsServer S → w.script ≡ script.now → StandsFor heap.old w → IsNext (context script.now body cells.new) S n (length pending.old.items + 2) (unwound (context script.now body cells.old) S n pending.old.items (S n (task_of (context script.now body cells.old) job) w)) heap.old heap.new w pending.new.items result }
+    ensures sound { (w : World) → w.script ≡ script.now → StandsFor heap.old w → KeepsCurrent (context script.now body cells.old) w (At job) → KeepsItems (context script.now body cells.old) w pending.old.items → StaysSoundNext (context script.now body cells.new) heap.old heap.new w pending.new.items result }
     ensures stacked { OnOk result (IsStacked 0 pending.new.items (length cells.new)) }
 {
     let before = cells.len();
@@ -104,6 +111,7 @@ fn wake<L: Ledger>(
     requires high { entry.depth ≤ length cells.old }
     requires stacked { IsStacked 0 pending.old.items entry.depth }
     ensures next { (S : Server) (n : ℕ) (w : World) → w.script ≡ script.now → StandsFor heap.old w → IsNext (context script.now body cells.new) S n (length pending.old.items + 2) (unwound (context script.now body cells.old) S n pending.old.items (pending_rest (context script.now body cells.old) S n entry (ended end) w)) heap.old heap.new w pending.new.items result }
+    ensures sound { (w : World) → StandsFor heap.old w → KeepsCurrent (context script.now body cells.old) w (EndedBy end) → KeepsItem (context script.now body cells.old) w entry → KeepsItems (context script.now body cells.old) w pending.old.items → StaysSoundNext (context script.now body cells.new) heap.old heap.new w pending.new.items result }
     ensures stacked { OnOk result (IsStacked 0 pending.new.items (length cells.new)) }
 {
     let Pending { item, depth } = entry;
@@ -126,6 +134,7 @@ fn step<L: Ledger>(
 ) -> Result<Next, Stop>
     requires { IsStacked 0 pending.old.items (length cells.old) }
     ensures next { (S : Server) (n : ℕ) (w : World) → IsServer S → w.script ≡ script.now → StandsFor heap.old w → IsNext (context script.now body cells.new) S n (height pending.old.items current) (meaning (context script.now body cells.old) S n pending.old.items current w) heap.old heap.new w pending.new.items result }
+    ensures sound { (w : World) → w.script ≡ script.now → StandsFor heap.old w → KeepsCurrent (context script.now body cells.old) w current → KeepsItems (context script.now body cells.old) w pending.old.items → StaysSoundNext (context script.now body cells.new) heap.old heap.new w pending.new.items result }
     ensures stacked { OnOk result (IsStacked 0 pending.new.items (length cells.new)) }
 {
     match current {
@@ -162,7 +171,8 @@ fn go<L: Ledger>(
     steps: &mut Steps<L>,
 ) -> Result<Turn<EvalFrame>, Stop>
     requires { IsStacked 0 pending.items (length cells) }
-    ensures { (S : Server) (n : ℕ) (w : World) → IsServer S → w.script ≡ script.now → StandsFor heap.old w → IsTurnOf (eval_rest script.now) heap.old heap.new w S n (meaning (context script.now body cells) S n pending.items current w) result }
+    ensures turn { (S : Server) (n : ℕ) (w : World) → IsServer S → w.script ≡ script.now → StandsFor heap.old w → IsTurnOf (eval_rest script.now) heap.old heap.new w S n (meaning (context script.now body cells) S n pending.items current w) result }
+    ensures sound { (w : World) → w.script ≡ script.now → StandsFor heap.old w → KeepsCurrent (context script.now body cells) w current → KeepsItems (context script.now body cells) w pending.items → StaysSoundTurn script.now heap.old heap.new w result }
 {
     let mut left = Countdown::new(
         heap.turns_ref().left(),
@@ -222,7 +232,8 @@ fn run_statements<L: Ledger>(
     script: &Checked,
     steps: &mut Steps<L>,
 ) -> Result<Turn<EvalFrame>, Stop>
-    ensures { (S : Server) (n : ℕ) (w : World) → IsServer S → w.script ≡ script.now → StandsFor heap.old w → IsTurnOf (eval_rest script.now) heap.old heap.new w S n (meaning (context script.now (script_body script.now) []) S n [] (At (job.Statements part.Script 0)) w) result }
+    ensures turn { (S : Server) (n : ℕ) (w : World) → IsServer S → w.script ≡ script.now → StandsFor heap.old w → IsTurnOf (eval_rest script.now) heap.old heap.new w S n (meaning (context script.now (script_body script.now) []) S n [] (At (job.Statements part.Script 0)) w) result }
+    ensures sound { (w : World) → w.script ≡ script.now → StandsFor heap.old w → IsSound w → StaysSoundTurn script.now heap.old heap.new w result }
 {
     let body = script_running(script);
     let cells = Cells::new(heap.alloc());
@@ -240,7 +251,8 @@ pub fn start_script<L: Ledger>(
     script: &Checked,
     steps: &mut Steps<L>,
 ) -> Result<Turn<EvalFrame>, Stop>
-    ensures { (S : Server) (n : ℕ) (w : World) → IsServer S → w.script ≡ script.now → StandsFor heap.old w → IsTurnOf (eval_rest script.now) heap.old heap.new w S n (run_of S (script_program script.now) n w) result }
+    ensures turn { (S : Server) (n : ℕ) (w : World) → IsServer S → w.script ≡ script.now → StandsFor heap.old w → IsTurnOf (eval_rest script.now) heap.old heap.new w S n (run_of S (script_program script.now) n w) result }
+    ensures sound { (w : World) → w.script ≡ script.now → StandsFor heap.old w → IsSound w → StaysSoundTurn script.now heap.old heap.new w result }
 {
     let mut top = Cells::new(heap.alloc());
     make_cells(heap, &mut top, script.top_names())?;
@@ -262,7 +274,8 @@ pub fn start_body<L: Ledger>(
     arguments: Values,
     steps: &mut Steps<L>,
 ) -> Result<Turn<EvalFrame>, Stop>
-    ensures { (S : Server) (n : ℕ) (w : World) → IsServer S → w.script ≡ script.now → StandsFor heap.old w → IsTurnOf (eval_rest script.now) heap.old heap.new w S n (run_of S (call_program script.now function callee this arguments) n w) result }
+    ensures turn { (S : Server) (n : ℕ) (w : World) → IsServer S → w.script ≡ script.now → StandsFor heap.old w → IsTurnOf (eval_rest script.now) heap.old heap.new w S n (run_of S (call_program script.now function callee this arguments) n w) result }
+    ensures sound { (w : World) → w.script ≡ script.now → StandsFor heap.old w → IsSound w → function.0 < length script.now.functions → IsObject w.lists callee → IsKnown w.lists this → AreKnown w.lists arguments → StaysSoundTurn script.now heap.old heap.new w result }
 {
     Ok(Turn::Done(Completion::Throw(Value::Undefined)))
 }
@@ -277,7 +290,8 @@ fn continue_with<L: Ledger>(
     steps: &mut Steps<L>,
 ) -> Result<Turn<EvalFrame>, Stop>
     requires { IsStacked 0 pending.items (length cells) }
-    ensures { (S : Server) (n a : ℕ) (o : Outcome) (old : HeapView) (w : World) → IsServer S → w.script ≡ script.now → IsNext (context script.now body cells) S n a o old heap.old w pending.items (Ok next) → IsTurnOf (eval_rest script.now) old heap.new w S n o result }
+    ensures turn { (S : Server) (n a : ℕ) (o : Outcome) (old : HeapView) (w : World) → IsServer S → w.script ≡ script.now → IsNext (context script.now body cells) S n a o old heap.old w pending.items (Ok next) → IsTurnOf (eval_rest script.now) old heap.new w S n o result }
+    ensures sound { (old : HeapView) (w : World) → w.script ≡ script.now → StaysSoundNext (context script.now body cells) old heap.old w pending.items (Ok next) → StaysSoundTurn script.now old heap.new w result }
 {
     match next {
         Next::GoOn(current) => go(heap, script, body, cells, pending, current, steps),
@@ -298,7 +312,8 @@ fn take_answer<L: Ledger>(
     steps: &mut Steps<L>,
 ) -> Result<Turn<EvalFrame>, Stop>
     requires { IsStacked 0 pending.items (length cells) }
-    ensures { (S : Server) (n : ℕ) (w : World) → IsServer S → w.script ≡ script.now → StandsFor heap.old w → IsTurnOf (eval_rest script.now) heap.old heap.new w S n (unwound (context script.now body cells) S n pending.items (run_of S (asked_program (context script.now body cells) asked (answered answer)) n w)) result }
+    ensures turn { (S : Server) (n : ℕ) (w : World) → IsServer S → w.script ≡ script.now → StandsFor heap.old w → IsTurnOf (eval_rest script.now) heap.old heap.new w S n (unwound (context script.now body cells) S n pending.items (run_of S (asked_program (context script.now body cells) asked (answered answer)) n w)) result }
+    ensures sound { (w : World) → w.script ≡ script.now → StandsFor heap.old w → IsKept IsKnownCompletion (asked_program (context script.now body cells) asked (answered answer)) w → KeepsItems (context script.now body cells) w pending.items → StaysSoundTurn script.now heap.old heap.new w result }
 {
     let depth = cells.len();
     match asked_plan(heap, script, body, &cells, asked, answer, steps) {
@@ -320,7 +335,8 @@ pub fn resume<L: Ledger>(
     answer: Completion,
     steps: &mut Steps<L>,
 ) -> Result<Turn<EvalFrame>, Stop>
-    ensures { (S : Server) (n : ℕ) (w : World) → IsServer S → w.script ≡ script.now → StandsFor heap.old w → IsTurnOf (eval_rest script.now) heap.old heap.new w S n (eval_rest script.now frame S n (answered answer) w) result }
+    ensures turn { (S : Server) (n : ℕ) (w : World) → IsServer S → w.script ≡ script.now → StandsFor heap.old w → IsTurnOf (eval_rest script.now) heap.old heap.new w S n (eval_rest script.now frame S n (answered answer) w) result }
+    ensures sound { (w : World) → w.script ≡ script.now → StandsFor heap.old w → KeepsRest script.now w frame (answered answer) → StaysSoundTurn script.now heap.old heap.new w result }
 {
     let EvalFrame {
         body,

@@ -5,6 +5,7 @@ use Rattle.evaluator.specs.Frames.{IsStacked}
 use Rattle.evaluator.specs.Machine.{IsInner}
 use Rattle.evaluator.specs.Plans.{job_program}
 use Rattle.evaluator.proofs.Driven.{grown-length, job_step, job_stops}
+use Rattle.evaluator.proofs.Sounding.{job_kept, stop_sound}
 use Rattle.evaluator.proofs.machine.advance.Goals as goal
 
 pub returns-in-Err-clause-next : goal.returns-in-Err-clause-next
@@ -28,3 +29,18 @@ returns-in-Ok-clause-next g c = λ S n w is same h.
     let scope : IsInner outer inner = record { same = refl; front = c.in-Ok.ensures.front } in
     job_step (length c.args.pending.now.items + 2) outer inner S n w c.args.pending.now.items c.follow.new.pending.items c.args.job c.args.heap.now c.job_plan.new.heap c.follow.result is same c.requires scope
     (λ st. c.follow.ensures.next outer inner S n c.args.heap.now c.job_plan.new.heap w (stage_of (job_program outer c.args.job) w) scope c.len-before.ensures c.len.ensures st plans)
+
+pub returns-in-Err-clause-sound : goal.returns-in-Err-clause-sound
+returns-in-Err-clause-sound g c = λ w same h current items.
+    let outer = context c.args.script.now c.args.body c.args.cells.now in
+    let inner = context c.args.script.now c.args.body c.job_plan.new.cells in
+    let plans = rw c.in-Err.is at (c.job_plan.ensures.plans w same h) in
+    stop_sound outer inner inner (job_program outer c.args.job) c.args.heap.now c.job_plan.new.heap w c.args.pending.now.items c.in-Err.stop (job_kept outer w c.args.job same current) plans
+
+pub returns-in-Ok-clause-sound : goal.returns-in-Ok-clause-sound
+returns-in-Ok-clause-sound g c = λ w same h current items.
+    let outer = context c.args.script.now c.args.body c.args.cells.now in
+    let inner = context c.args.script.now c.args.body c.job_plan.new.cells in
+    let plans = rw c.in-Ok.is at (c.job_plan.ensures.plans w same h) in
+    let scope : IsInner outer inner = record { same = refl; front = c.in-Ok.ensures.front } in
+    c.follow.ensures.sound outer inner (job_program outer c.args.job) c.args.heap.now c.job_plan.new.heap w scope c.len-before.ensures c.len.ensures (job_kept outer w c.args.job same current) items plans

@@ -1,12 +1,19 @@
 use Rattle.std.proofs.Common.{refl, arith}
+use Rattle.es_model.specs.Stages.{stage_of}
 use Rattle.evaluator.specs.declared.items.Item.TheVariants as item
 use Rattle.evaluator.proofs.Driven.{ask_next, end_next, enter_next, last_next, stacked_more, stacked_wait, wait_next}
+use Rattle.evaluator.proofs.Sounding.{ask_sound, end_sound, enter_sound, last_sound, stopped, wait_sound}
 use Rattle.evaluator.proofs.machine.follow.Goals as goal
 
 pub returns-in_ok-wait-in-Wait-clause-next : goal.returns-in_ok-wait-in-Wait-clause-next
 returns-in_ok-wait-in-Wait-clause-next c = λ outer inner S n old new w stage is before long st h.
     let plans = rw c.in-Wait.is at h in
     wait_next outer inner S n old new w stage c.args.pending.now.items c.wait.new.pending.items c.in-Wait.job c.in-Wait.item c.args.depth long plans st c.in_ok-wait-in-Wait.ensures
+
+pub returns-in_ok-wait-in-Wait-clause-sound : goal.returns-in_ok-wait-in-Wait-clause-sound
+returns-in_ok-wait-in-Wait-clause-sound c = λ outer inner p old new w is before long kept items h.
+    let plans = rw c.in-Wait.is at h in
+    wait_sound outer inner old new w (stage_of p w) c.args.pending.now.items c.wait.new.pending.items c.in-Wait.job c.in-Wait.item c.args.depth long (stopped outer inner p w c.args.pending.now.items c.args.before is before c.requires.stacked kept items) plans c.in_ok-wait-in-Wait.ensures
 
 pub returns-in_ok-wait-in-Wait-clause-stacked : goal.returns-in_ok-wait-in-Wait-clause-stacked
 returns-in_ok-wait-in-Wait-clause-stacked c =
@@ -18,6 +25,11 @@ returns-in_ok-wait-in-Enter-clause-next c = λ outer inner S n old new w stage i
     let plans = rw c.in-Enter.is at h in
     enter_next outer inner S n old new w stage c.args.pending.now.items c.wait-in-Enter.new.pending.items c.in-Enter.job c.in-Enter.statement c.args.before _ is before plans st c.in_ok-wait-in-Enter.ensures
 
+pub returns-in_ok-wait-in-Enter-clause-sound : goal.returns-in_ok-wait-in-Enter-clause-sound
+returns-in_ok-wait-in-Enter-clause-sound c = λ outer inner p old new w is before long kept items h.
+    let plans = rw c.in-Enter.is at h in
+    enter_sound outer inner old new w (stage_of p w) c.args.pending.now.items c.wait-in-Enter.new.pending.items c.in-Enter.job c.in-Enter.statement c.args.before _ is before (stopped outer inner p w c.args.pending.now.items c.args.before is before c.requires.stacked kept items) plans c.in_ok-wait-in-Enter.ensures
+
 pub returns-in_ok-wait-in-Enter-clause-stacked : goal.returns-in_ok-wait-in-Enter-clause-stacked
 returns-in_ok-wait-in-Enter-clause-stacked c =
     stacked_wait c.args.pending.now.items c.wait-in-Enter.new.pending.items (item.Statement c.in-Enter.statement) c.args.before c.args.depth c.requires.fewer c.requires.stacked c.in_ok-wait-in-Enter.ensures
@@ -27,6 +39,9 @@ returns-in-Last c = record {
   next = λ outer inner S n old new w stage is before long st h.
       let plans = rw c.in-Last.is at h in
       last_next outer inner S n old new w stage c.args.pending.now.items c.args.pending.now.items c.in-Last.job refl plans st;
+  sound = λ outer inner p old new w is before long kept items h.
+      let plans = rw c.in-Last.is at h in
+      last_sound outer inner old new w (stage_of p w) c.args.pending.now.items c.in-Last.job (stopped outer inner p w c.args.pending.now.items c.args.before is before c.requires.stacked kept items) plans;
   stacked = stacked_more 0 c.args.pending.now.items c.args.before c.args.depth c.requires.stacked c.requires.fewer;
 }
 
@@ -34,6 +49,9 @@ pub returns-in-Ask : goal.returns-in-Ask
 returns-in-Ask c = record {
   next = λ outer inner S n old new w stage is before long st h.
       let plans = rw c.in-Ask.is at h in ask_next outer inner S n old new w stage c.args.pending.now.items c.in-Ask.request c.in-Ask.asked plans st;
+  sound = λ outer inner p old new w is before long kept items h.
+      let plans = rw c.in-Ask.is at h in
+      ask_sound outer inner old new w (stage_of p w) c.args.pending.now.items c.in-Ask.request c.in-Ask.asked (stopped outer inner p w c.args.pending.now.items c.args.before is before c.requires.stacked kept items) plans;
   stacked = stacked_more 0 c.args.pending.now.items c.args.before c.args.depth c.requires.stacked c.requires.fewer;
 }
 
@@ -41,5 +59,8 @@ pub returns-in-Ends : goal.returns-in-Ends
 returns-in-Ends c = record {
   next = λ outer inner S n old new w stage is before long st h.
       let plans = rw c.in-Ends.is at h in end_next outer inner S n old new w stage c.args.pending.now.items c.in-Ends.end plans st;
+  sound = λ outer inner p old new w is before long kept items h.
+      let plans = rw c.in-Ends.is at h in
+      end_sound outer inner old new w (stage_of p w) c.args.pending.now.items c.in-Ends.end (stopped outer inner p w c.args.pending.now.items c.args.before is before c.requires.stacked kept items) plans;
   stacked = stacked_more 0 c.args.pending.now.items c.args.before c.args.depth c.requires.stacked c.requires.fewer;
 }

@@ -1,7 +1,11 @@
 use Rattle.es_model.specs.declared.answers.Completion.TheVariants.{Throw}
 use Rattle.property_keys.specs.declared.values.Value.TheVariants as value
 use Rattle.evaluator.proofs.Started.{thrown_turn}
+use Rattle.evaluator.proofs.Sounding.{thrown_sound}
 use Rattle.evaluator.proofs.machine.start_body.Goals as goal
 
-pub returns : goal.returns
-returns g c = λ S n w is same h. thrown_turn c.args.script.now c.args.heap.now w S n (Throw value.Undefined) h
+pub returns-clause-turn : goal.returns-clause-turn
+returns-clause-turn g c = λ S n w is same h. thrown_turn c.args.script.now c.args.heap.now w S n (Throw value.Undefined) h
+
+pub returns-clause-sound : goal.returns-clause-sound
+returns-clause-sound g c = λ w same h sound function callee this arguments. thrown_sound c.args.script.now c.args.heap.now w (Throw value.Undefined) h sound tt

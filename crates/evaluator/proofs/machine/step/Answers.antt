@@ -2,6 +2,7 @@ use Rattle.std.proofs.Common.{◌≡◌, ◌∙◌, length, arith, sym}
 use Rattle.std.proofs.lemmas.List.{append-nil}
 use Rattle.evaluator.specs.Contexts.{context}
 use Rattle.evaluator.proofs.Driven.{end_step, pop_step, popped_stack, stacked_none}
+use Rattle.evaluator.proofs.Sounding.{body_sound, items_popped}
 use Rattle.evaluator.proofs.machine.step.Goals as goal
 
 pub returns-in-At-clause-next : goal.returns-in-At-clause-next
@@ -29,3 +30,18 @@ returns-in-Some-clause-next g c = λ S n w is same h.
     rw c.in-EndedBy.is
     (pop_step here inner S n c.args.heap.now c.wake.new.heap w c.args.pending.now.items c.pop.new.self.items c.wake.new.pending.items c.in-Some.entry c.in-EndedBy.end c.wake.result c.in-Some.ensures.items
     (c.wake.ensures.next S n w same h))
+
+pub returns-in-At-clause-sound : goal.returns-in-At-clause-sound
+returns-in-At-clause-sound g c = λ w same h current items. let job = rw c.in-At.is at current in c.advance.ensures.sound w same h job items
+
+pub returns-in-None-clause-sound : goal.returns-in-None-clause-sound
+returns-in-None-clause-sound g c = λ w same h current items.
+    let here = context c.args.script.now c.args.body c.args.cells.now in
+    let end = rw c.in-EndedBy.is at current in
+    body_sound here c.args.heap.now w c.pop.new.self.items c.in-EndedBy.end c.end_of_body.result c.end_of_body.ensures h end
+
+pub returns-in-Some-clause-sound : goal.returns-in-Some-clause-sound
+returns-in-Some-clause-sound g c = λ w same h current items.
+    let here = context c.args.script.now c.args.body c.args.cells.now in
+    let end = rw c.in-EndedBy.is at current in
+    let popped = items_popped here w c.args.pending.now.items c.pop.new.self.items c.in-Some.entry c.in-Some.ensures.items items in c.wake.ensures.sound w h end popped.1 popped.0

@@ -7,10 +7,11 @@ use Rattle.evaluator.specs.Frames.{IsStacked}
 use Rattle.evaluator.specs.Machine.{IsInner}
 use Rattle.evaluator.specs.Plans.{asked_program}
 use Rattle.evaluator.proofs.Looped.{asked_step, asked_stops, err_turn}
+use Rattle.evaluator.proofs.Sounding.{sound_stops, stop_sound}
 use Rattle.evaluator.proofs.machine.take_answer.Goals as goal
 
-pub returns-in-Err : goal.returns-in-Err
-returns-in-Err g c = λ S n w is same h.
+pub returns-in-Err-clause-turn : goal.returns-in-Err-clause-turn
+returns-in-Err-clause-turn g c = λ S n w is same h.
     let here = context c.args.script.now c.args.body c.args.cells in
     let plans = rw c.in-Err.is at (c.asked_plan.ensures w h) in
     asked_stops c.args.script.now c.args.body c.args.cells S n c.args.heap.now c.asked_plan.new.heap w (asked_program here c.args.asked (answered c.args.answer)) c.args.pending.items c.in-Err.stop plans
@@ -21,8 +22,8 @@ follow-requires-clause-fewer g c = omega arith
 pub follow-requires-clause-stacked : goal.follow-requires-clause-stacked
 follow-requires-clause-stacked g c = subst (λ d. IsStacked 0 c.args.pending.items d) (sym c.len-depth.ensures) c.requires
 
-pub returns-in-Err-follow : goal.returns-in-Err-follow
-returns-in-Err-follow g c = λ S n w is same h.
+pub returns-in-Err-follow-clause-turn : goal.returns-in-Err-follow-clause-turn
+returns-in-Err-follow-clause-turn g c = λ S n w is same h.
     let here = context c.args.script.now c.args.body c.args.cells in
     let plans = rw c.in-Ok.is at (c.asked_plan.ensures w h) in
     let p = asked_program here c.args.asked (answered c.args.answer) in
@@ -35,8 +36,8 @@ returns-in-Err-follow g c = λ S n w is same h.
 pub continue_with-requires : goal.continue_with-requires
 continue_with-requires g c = subst (λ d. IsStacked 0 c.follow.new.pending.items d) c.len-depth.ensures c.in-Ok-follow.ensures.stacked
 
-pub returns-in-Ok-follow : goal.returns-in-Ok-follow
-returns-in-Ok-follow g c = λ S n w is same h.
+pub returns-in-Ok-follow-clause-turn : goal.returns-in-Ok-follow-clause-turn
+returns-in-Ok-follow-clause-turn g c = λ S n w is same h.
     let here = context c.args.script.now c.args.body c.args.cells in
     let plans = rw c.in-Ok.is at (c.asked_plan.ensures w h) in
     let p = asked_program here c.args.asked (answered c.args.answer) in
@@ -44,4 +45,29 @@ returns-in-Ok-follow g c = λ S n w is same h.
     let steps = asked_step (length c.args.pending.items + 2) here S n c.args.heap.now c.asked_plan.new.heap w p c.args.pending.items c.follow.new.pending.items c.follow.result
     (λ st. c.follow.ensures.next here here S n c.args.heap.now c.asked_plan.new.heap w (stage_of p w) scope c.len-depth.ensures c.len-depth.ensures st plans) in
     let goes = rw c.in-Ok-follow.is at steps in
-    c.continue_with.ensures S n _ _ c.args.heap.now w is same goes
+    c.continue_with.ensures.turn S n _ _ c.args.heap.now w is same goes
+
+pub returns-in-Err-clause-sound : goal.returns-in-Err-clause-sound
+returns-in-Err-clause-sound g c = λ w same h kept items.
+    let here = context c.args.script.now c.args.body c.args.cells in
+    let plans = rw c.in-Err.is at (c.asked_plan.ensures w h) in
+    sound_stops c.args.script.now here c.args.heap.now c.asked_plan.new.heap w c.args.pending.items c.in-Err.stop
+    (stop_sound here here here (asked_program here c.args.asked (answered c.args.answer)) c.args.heap.now c.asked_plan.new.heap w c.args.pending.items c.in-Err.stop kept plans)
+
+pub returns-in-Err-follow-clause-sound : goal.returns-in-Err-follow-clause-sound
+returns-in-Err-follow-clause-sound g c = λ w same h kept items.
+    let here = context c.args.script.now c.args.body c.args.cells in
+    let plans = rw c.in-Ok.is at (c.asked_plan.ensures w h) in
+    let p = asked_program here c.args.asked (answered c.args.answer) in
+    let scope : IsInner here here = record { same = refl; front = take-length c.args.cells } in
+    let step = c.follow.ensures.sound here here p c.args.heap.now c.asked_plan.new.heap w scope c.len-depth.ensures c.len-depth.ensures kept items plans in
+    let stops = rw c.in-Err-follow.is at step in sound_stops c.args.script.now here c.args.heap.now c.asked_plan.new.heap w c.follow.new.pending.items c.in-Err-follow.stop stops
+
+pub returns-in-Ok-follow-clause-sound : goal.returns-in-Ok-follow-clause-sound
+returns-in-Ok-follow-clause-sound g c = λ w same h kept items.
+    let here = context c.args.script.now c.args.body c.args.cells in
+    let plans = rw c.in-Ok.is at (c.asked_plan.ensures w h) in
+    let p = asked_program here c.args.asked (answered c.args.answer) in
+    let scope : IsInner here here = record { same = refl; front = take-length c.args.cells } in
+    let step = c.follow.ensures.sound here here p c.args.heap.now c.asked_plan.new.heap w scope c.len-depth.ensures c.len-depth.ensures kept items plans in
+    let goes = rw c.in-Ok-follow.is at step in c.continue_with.ensures.sound c.args.heap.now w same goes
