@@ -1,0 +1,5 @@
+pub mod Served
+pub mod Steps
+pub mod Entered
+pub mod Loops
+pub mod Printing

@@ -1,9 +1,12 @@
--- What is left of an algorithm where a frame waits, one line for each crate of frames.
+-- What is left of an algorithm where a frame waits, one line for each crate of frames. The tree is that of the script that runs.
+use Rattle.es_tree.specs.Tree.{Tree}
 use Rattle.es_model.specs.Frames.{program_rest}
 use Rattle.es_model.specs.Unwinding.{Rest}
-use Rattle.ordinary_object.specs.Rests.{program_after}
+use Rattle.ordinary_object.specs.Rests as ordinary
+use Rattle.plain_builtins.specs.Rests as plain
 use Rattle.dispatcher.specs.declared.frames.Frame.{Frame}
-use Rattle.dispatcher.specs.declared.frames.Frame.TheVariants.{Ordinary}
+use Rattle.dispatcher.specs.declared.frames.Frame.TheVariants.{Ordinary, Plain}
 
-abbrev pub frame_rest : Rest Frame
-frame_rest (Ordinary f) S n c w = program_rest program_after f S n c w
+abbrev pub frame_rest : Tree → Rest Frame
+frame_rest script (Ordinary f) S n c w = program_rest ordinary.program_after f S n c w
+frame_rest script (Plain f) S n c w = program_rest plain.program_after f S n c w

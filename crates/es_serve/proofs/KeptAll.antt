@@ -15,7 +15,7 @@ use Rattle.es_model.specs.Events.{Way, Reads, Writes, class_of}
 use Rattle.es_model.specs.Fits.{IsKnownRequest, object_in}
 use Rattle.es_model.specs.Grows.{Grows}
 use Rattle.es_model.specs.World.{World, kind}
-use Rattle.es_model.specs.Changes.{Accessing, changed, charged}
+use Rattle.es_model.specs.Changes.{Accessing, changed, charged, printed_more}
 use Rattle.es_model.specs.Program.{Program, change, Of, Evaluating, Statements, Round}
 use Rattle.es_model.specs.Known.{AreKnown, IfThere}
 use Rattle.es_model.specs.Sound.{IsSound}
@@ -32,6 +32,7 @@ use Rattle.ordinary_object.proofs.Kept.{ordinary_kept}
 use Rattle.plain_builtins.specs.Plain.{row_program}
 use Rattle.plain_builtins.proofs.KeptPlain.{row-kept, work-kept}
 use Rattle.evaluator.proofs.TasksKept.{node-kept, statements-kept, round-kept}
+use Rattle.es_serve.specs.Lines.{line_bytes}
 use Rattle.es_serve.specs.Serve.{method_of, method_program, is_counted, noting, call_of, call_program, construct_of, request_program, program_of}
 
 entering-kept : (q : Request) (w : World) → IsSound w → IsKept (FitsTask (Of q)) (entering unwritten) w
@@ -105,6 +106,11 @@ construct_of-kept q w (kind_of.Proxy t handler callable constructor) f arguments
 
 -- ---- every request
 
+-- what was printed is no matter of soundness
+sound-printed : (w : World) (bytes : List ℕ) → IsSound w → IsSound (printed_more w bytes)
+unfolding printed_more
+sound-printed w bytes s = record { intact = s.intact; kinds = s.kinds }
+
 object-kept : (q : Request) (w : World) (o : ObjectId) → IsSound w → IsKnownRequest w.lists q → object_in q ≡ Some o → IsKept (FitsTask (Of q)) (method_program o q) w
 object-kept q w o s h e =
     method-kept q w (kind w.lists o) s (λ ordinary. ordinary_kept q w s h (subst (λ x. IfThere (λ (a : ObjectId). is_ordinary (kind w.lists a) ≡ true) x) (sym e) ordinary))
@@ -128,7 +134,7 @@ request-kept (Prevent o) w s h = object-kept (Prevent o) w o s h refl
 request-kept (Call f this arguments) w s h = call-kept w f this arguments s h.2
 request-kept (Construct f arguments target) w s h = construct_of-kept (Construct f arguments target) w (kind w.lists f) f arguments target s
 request-kept (Work operation operands) w s h = work-kept operation operands w s h.1
-request-kept (Print line) w s h = (s, tt)
+request-kept (Print line) w s h = (sound-printed w (line_bytes w.lists line) s, (tt, tt))
 
 -- ---- every task, one line for each crate
 

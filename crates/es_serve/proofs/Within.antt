@@ -106,7 +106,7 @@ request-within r enough script (Prevent o) = λ l. method-within r enough (kind 
 request-within r enough script (Call f this arguments) = call-within r enough script f this arguments
 request-within r enough script (Construct f arguments target) = λ l. construct_of-within r script (kind l f) f arguments target
 request-within r enough script (Work op operands) = work-within r enough op operands
-request-within r enough script (Print line) = tt
+request-within r enough script (Print line) = λ l. tt
 
 -- a charge gives enough for the longest object literal of the script
 renewed-literals : (script : Tree) → 200 + 40 * most_definitions script.nodes ≤ renewed script

@@ -23,6 +23,7 @@ use Rattle.ordinary_object.specs.Ordinary.{ordinary_program}
 use Rattle.plain_builtins.specs.Plain as plain
 use Rattle.evaluator.specs.Functions as functions
 use Rattle.evaluator.specs.Tasks as evaluator
+use Rattle.es_serve.specs.Lines.{print_line}
 
 -- ---- internal methods other than Call and Construct
 
@@ -91,7 +92,7 @@ request_program script (Prevent o) = method_program o (Prevent o)
 request_program script (Call f this arguments) = call_program script f this arguments
 request_program script (Construct f arguments target) = construct_program script f arguments target
 request_program script (Work operation operands) = plain.work_program operation operands
-request_program script (Print line) = unwritten
+request_program script (Print line) = print_line line
 
 -- the program of each task, one line for each crate
 abbrev pub program_of : Tree → Task → Program

@@ -5,6 +5,7 @@ ghost use Rattle.es_model.specs.Grows.{KeepsLists, KeepsPrinted, KeepsScript};
 ghost use Rattle.es_model.specs.Kept.{KeepsEachBy, KeepsSound};
 ghost use Rattle.es_model.specs.Outcomes.{NeverRaises};
 ghost use Rattle.es_model.specs.Servers.{IsDepthFreeBy, IsServerBy, IsThrifty};
+ghost use Rattle.es_serve.specs.Run.{RunsArePaid, RunsStaySound};
 ghost use Rattle.es_serve.specs.Serve.{model, program_of};
 
 /// A task comes to the same at every depth that is enough for the turns that are left.
@@ -45,4 +46,14 @@ pub fn sound_worlds_are_kept()
 /// All that a frame keeps is there after each task, each object with its kind.
 pub fn frames_stay()
     ensures { KeepsNames model }
+{}
+
+/// The code of a script comes to fewer requests and parts than a budget of the script, and two budgets for each turn that is left.
+pub fn runs_are_paid()
+    ensures { RunsArePaid }
+{}
+
+/// A run of a script ends in a sound world, in which a value that it throws is there; or it halts in a world in which all that is named is there.
+pub fn runs_stay_sound()
+    ensures { RunsStaySound }
 {}

@@ -3,6 +3,7 @@
 use Rattle.std.specs.Prelude.{◌≡◌, ℕ, Bool, true, false, Option, Some, None, List, [], ◌∷◌, codes}
 use Rattle.property_keys.specs.declared.keys.PropKey.TheVariants.{Index}
 use Rattle.property_keys.specs.declared.keys.Attributes.{Attributes}
+use Rattle.property_keys.specs.declared.values.Value.{Value}
 use Rattle.property_keys.specs.declared.values.Value.TheVariants as value
 use Rattle.descriptors.specs.declared.fields.Descriptor.{Descriptor}
 use Rattle.descriptors.specs.declared.property.Complete.{Complete}
@@ -11,7 +12,7 @@ use Rattle.es_tree.specs.declared.numbers.SiteId.{SiteId}
 use Rattle.es_model.specs.declared.answers.Reply.TheVariants as reply
 use Rattle.es_model.specs.declared.kinds.ObjectKind.TheVariants as kind_of
 use Rattle.es_model.specs.declared.owned.OwnProperty.{OwnProperty}
-use Rattle.es_model.specs.declared.requests.Request.TheVariants.{GetOwn, Define, Keys, Proto, Read, Write}
+use Rattle.es_model.specs.declared.requests.Request.TheVariants.{GetOwn, Define, Keys, Print, Proto, Read, Write}
 use Rattle.es_model.specs.Completions.{Completion, Normal, Throw}
 use Rattle.es_model.specs.Events.{Event, Accessed, Added, Redefined, GivenFunctions, OfFunctions, OfValue, Reads, Writes, IsReference, IsSmall}
 use Rattle.es_model.specs.Events.{AtNull, AtProperty, AtProxy}
@@ -182,3 +183,23 @@ ReadBySymbol =
     answers (Read (at 3) (symbol 0) (object 3) site) (chain_with 5) (gives value.Undefined)
     (world chain [] 3 (
     Accessed fourth_site Reads (at 3) false (symbol 0) (record { links = at 1 ∷ at 0 ∷ []; ending = AtNull }) ∷ [])) 2
+
+-- ---- a line: its texts in UTF-8 with a space between two, and a line feed; the answer is undefined, for no turn
+
+-- `a`, a surrogate without a partner, and U+1F600 in its two code units
+abbrev pub lined : List ℕ → World
+lined printed =
+    record (world [] (codes "a" ∷ (0xD800 ∷ []) ∷ (0xD83D ∷ 0xDE00 ∷ []) ∷ []) 5 []) { printed = printed }
+
+abbrev pub said : ℕ → Value
+said n = value.Text (record { 0 = n })
+
+abbrev pub LineHasTexts : Type 0
+LineHasTexts = answers (Print (said 0 ∷ said 1 ∷ [])) (lined []) (gives value.Undefined) (lined (97 ∷ 32 ∷ 239 ∷ 191 ∷ 189 ∷ 10 ∷ [])) 0
+
+abbrev pub LineIsEmpty : Type 0
+LineIsEmpty = answers (Print []) (lined []) (gives value.Undefined) (lined (10 ∷ [])) 0
+
+-- It stands behind the lines that are there.
+abbrev pub LineIsLast : Type 0
+LineIsLast = answers (Print (said 2 ∷ [])) (lined (97 ∷ 10 ∷ [])) (gives value.Undefined) (lined (97 ∷ 10 ∷ 240 ∷ 159 ∷ 152 ∷ 128 ∷ 10 ∷ [])) 0

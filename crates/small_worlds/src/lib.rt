@@ -17,7 +17,7 @@ pub use evaluations::{
     operators_are_applied, primaries_are_evaluated, statements_run,
 };
 pub use requests::{
-    code_units_have_keys, hidden_ones_stay_hidden, own_properties_are_given,
+    code_units_have_keys, hidden_ones_stay_hidden, lines_are_printed, own_properties_are_given,
     primitives_take_nothing, prototypes_are_given, walks_are_noted,
 };
 

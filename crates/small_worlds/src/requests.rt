@@ -1,6 +1,6 @@
-//! Worked examples of requests: prototypes, own properties, receivers, keys of a String object, definitions over what is hidden, accesses of Arrays and Proxies.
+//! Worked examples of requests: prototypes, own properties, receivers, keys of a String object, definitions over what is hidden, accesses of Arrays and Proxies, lines.
 
-ghost use Rattle.small_worlds.specs.Requests.{AccessorIsFixed, AccessorIsGiven, GetterOverHidden, KeysOfText, OwnIsAccessor, OwnIsNotInherited, OwnIsStored, ProtoEntersProxy, ProtoIsNull, ProtoIsObject, ProtoIsProxy, ReadBySymbol, ReadMeetsProxy, ReadOfArray, ReadOfProxy, SetAbsentOnSymbol, SetOnNull, SetOnSymbol, SetOnText, SetOnTruth, SetOnUndefined, SetterOfSymbol, ValueOverHidden, WriteOfArray};
+ghost use Rattle.small_worlds.specs.Requests.{AccessorIsFixed, AccessorIsGiven, GetterOverHidden, KeysOfText, LineHasTexts, LineIsEmpty, LineIsLast, OwnIsAccessor, OwnIsNotInherited, OwnIsStored, ProtoEntersProxy, ProtoIsNull, ProtoIsObject, ProtoIsProxy, ReadBySymbol, ReadMeetsProxy, ReadOfArray, ReadOfProxy, SetAbsentOnSymbol, SetOnNull, SetOnSymbol, SetOnText, SetOnTruth, SetOnUndefined, SetterOfSymbol, ValueOverHidden, WriteOfArray};
 
 /// `[[GetPrototypeOf]]` gives the prototype as it is.
 #[tactic(auto, unfolding(es_serve::specs::Serve::model, es_model::specs::Weights::renewed, es_model::specs::Changes::charged))]
@@ -54,4 +54,12 @@ pub fn walks_are_noted()
     ensures read_meets_proxy { ReadMeetsProxy }
     ensures read_of_proxy { ReadOfProxy }
     ensures read_by_symbol { ReadBySymbol }
+{}
+
+/// A line has its texts in UTF-8, a space between two and a line feed at its end, behind what was printed.
+#[tactic(auto, unfolding(es_serve::specs::Serve::model, es_serve::specs::Lines::line_bytes, es_model::specs::Weights::renewed, es_model::specs::Changes::printed_more))]
+pub fn lines_are_printed()
+    ensures line_has_texts { LineHasTexts }
+    ensures line_is_empty { LineIsEmpty }
+    ensures line_is_last { LineIsLast }
 {}

@@ -1,0 +1,18 @@
+use Rattle.es_model.specs.Completions.{answered}
+use Rattle.es_model.specs.Program.{run}
+use Rattle.object_heap.proofs.Turns.{stops_turn_of}
+use Rattle.ordinary_object.specs.Rests as ordinary
+use Rattle.plain_builtins.specs.Rests as plain
+use Rattle.dispatcher.proofs.frames.resume.Goals as goal
+
+pub returns-in-Ordinary : goal.returns-in-Ordinary
+returns-in-Ordinary g c = λ S n w is same h.
+    rw c.in-Ordinary.is
+    (c.of_ordinary.ensures c.args.script.now c.args.heap.now c.resume.new.heap w S n (run S (ordinary.program_after c.in-Ordinary.frame (answered c.args.answer)) n w)
+    (stops_turn_of ordinary.program_after (ordinary.program_after c.in-Ordinary.frame (answered c.args.answer)) c.args.heap.now c.resume.new.heap w c.resume.result (c.resume.ensures.stops w h) S n))
+
+pub returns-in-Plain : goal.returns-in-Plain
+returns-in-Plain g c = λ S n w is same h.
+    rw c.in-Plain.is
+    (c.of_plain.ensures c.args.script.now c.args.heap.now c.resume-in-Plain.new.heap w S n (run S (plain.program_after c.in-Plain.frame (answered c.args.answer)) n w)
+    (stops_turn_of plain.program_after (plain.program_after c.in-Plain.frame (answered c.args.answer)) c.args.heap.now c.resume-in-Plain.new.heap w c.resume-in-Plain.result (c.resume-in-Plain.ensures.stops w h) S n))
