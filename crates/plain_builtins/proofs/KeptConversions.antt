@@ -1,5 +1,5 @@
 -- ToPrimitive, ToString, ToNumber and ToPropertyKey keep worlds sound.
-use Rattle.std.proofs.Common.{◌≡◌, ◌≤◌, ℕ, suc, ℤ, pos, negsuc, Bool, true, false, cond, Option, Some, None, Result, Ok, Err, List, [], ◌∷◌, refl, arith, ap, ◌∙◌}
+use Rattle.std.proofs.Common.{◌≡◌, ◌≤◌, ℕ, suc, ℤ, pos, negsuc, Bool, true, false, cond, Option, Some, None, Result, Ok, Err, List, [], ◌∷◌, refl, arith, ap, sym, subst, ◌∙◌}
 use Rattle.std.proofs.lemmas.Bool.{leb-true}
 use Rattle.std.proofs.lemmas.Int.{ints}
 use Rattle.std.proofs.lemmas.Fmt.{length_signed_le}
@@ -230,6 +230,9 @@ no-symbol l None t = tt
 -- the key of a text that is there
 pub text-key : (l : Lists) (t : TextId) → IsText l t → IsKnownKey l (key_of (units_of l t) t)
 text-key l t known = (IsGoodKey-key_of l.texts t known, no-symbol l (array_index_of (units_of l t)) t)
+
+pub key_known : (l : Lists) (t : TextId) (k : PropKey) → k ≡ key_of (units_of l t) t → IsText l t → IsKnownKey l k
+key_known l t k e known = subst (IsKnownKey l) (sym e) (text-key l t known)
 
 key_of_text-kept : (operands : List Value) (w : World) (t : TextId) → IsSound w → IsText w.lists t → IsKept (FitsTask (Of (Work operation.ToKey operands))) (key_of_text t) w
 key_of_text-kept operands w t s known = (s, (tt, text-key w.lists t known))

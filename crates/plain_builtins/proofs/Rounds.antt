@@ -1,5 +1,5 @@
 -- The next round of an algorithm, or its end, where so many rounds are left.
-use Rattle.std.proofs.Common.{◌≡◌, ℕ, suc, ◌-◌, false, Some, List, ◌∷◌, Result, Ok, refl, sym, subst}
+use Rattle.std.proofs.Common.{◌≡◌, ℕ, suc, ◌-◌, false, Some, List, Result, Ok, refl, sym, subst}
 use Rattle.property_keys.specs.declared.identifiers.ObjectId.{ObjectId}
 use Rattle.property_keys.specs.declared.values.Value.{Value}
 use Rattle.descriptors.specs.declared.fields.Descriptor.{Descriptor}
@@ -12,62 +12,58 @@ use Rattle.es_model.specs.Program.{charge}
 use Rattle.object_heap.specs.Stands.{HeapView, goes_none}
 use Rattle.plain_builtins.specs.ArrayLikes.{elements_left, gives_all, get_element}
 use Rattle.plain_builtins.specs.Comparisons.{says}
-use Rattle.plain_builtins.specs.Instances.{instance_round, most_rounds, prototype_by}
+use Rattle.plain_builtins.specs.Counting.{IsAfterFirst}
+use Rattle.plain_builtins.specs.Instances.{instance_round, prototype_by}
 use Rattle.es_model.specs.programs.Testing.{as_object}
 use Rattle.plain_builtins.specs.Printing.{print_left}
 use Rattle.plain_builtins.specs.Rests.{program_after}
 use Rattle.plain_builtins.specs.Turns.{StopsAt}
-use Rattle.plain_builtins.specs.WantedFields.{fields_after, fields_left, no_fields, to_wanted, wanted_by}
+use Rattle.plain_builtins.specs.WantedFields.{fields_left}
 use Rattle.plain_builtins.specs.declared.words.Collected.{Collected}
 use Rattle.plain_builtins.specs.declared.words.Field.{Field}
-use Rattle.plain_builtins.specs.declared.words.Field.TheVariants.{Enumerable}
 use Rattle.plain_builtins.specs.declared.frame.Listing.{Listing}
 use Rattle.plain_builtins.specs.declared.frame.ListedFrame.TheVariants.{ElementGiven}
 use Rattle.plain_builtins.specs.declared.frame.PlainFrame.{PlainFrame}
 use Rattle.plain_builtins.specs.declared.frame.PlainFrame.TheVariants.{Listed}
 
-pub no-element : (old new : HeapView) (f : Listing) (r : Result (Turn PlainFrame) Stop) → f.left ≡ 0 →
+pub no_element : (old new : HeapView) (f : Listing) (r : Result (Turn PlainFrame) Stop) → f.left ≡ 0 →
     StopsAt old new (gives_all f.collected) r → StopsAt old new (elements_left f.left f.length f.object f.collected) r
-no-element old new f r e h = subst (λ n. StopsAt old new (elements_left n f.length f.object f.collected) r) (sym e) h
+no_element old new f r e h = subst (λ n. StopsAt old new (elements_left n f.length f.object f.collected) r) (sym e) h
 
-pub an-element : (old new : HeapView) (f : Listing) (fewer i : ℕ) (r : Result (Turn PlainFrame) Stop) → f.left ≡ suc fewer → i ≡ f.length - f.left →
-    StopsAt old new (charge 1 (get_element f.object i (program_after (Listed (ElementGiven (record f { left = fewer })))))) r →
-    StopsAt old new (elements_left f.left f.length f.object f.collected) r
-an-element old new f fewer i r e at h =
+pub an_element : (old new : HeapView) (f : Listing) (left i : ℕ) (r : Result (Turn PlainFrame) Stop) → left ≡ suc f.left → i ≡ f.length - left →
+    StopsAt old new (charge 1 (get_element f.object i (program_after (Listed (ElementGiven f))))) r → StopsAt old new (elements_left left f.length f.object f.collected) r
+an_element old new f left i r e at h =
     subst (λ n. StopsAt old new (elements_left n f.length f.object f.collected) r) (sym e)
-    (subst (λ n. StopsAt old new (charge 1 (get_element f.object (f.length - n) (program_after (Listed (ElementGiven (record f { left = fewer })))))) r) e
-    (subst (λ j. StopsAt old new (charge 1 (get_element f.object j (program_after (Listed (ElementGiven (record f { left = fewer })))))) r) at h))
+    (subst (λ n. StopsAt old new (charge 1 (get_element f.object (f.length - n) (program_after (Listed (ElementGiven f))))) r) e
+    (subst (λ j. StopsAt old new (charge 1 (get_element f.object j (program_after (Listed (ElementGiven f))))) r) at h))
 
-pub no-round : (old : HeapView) (left : ℕ) (p x : ObjectId) → left ≡ 0 → StopsAt old old (instance_round left p x) (Ok (Done (answer.Normal (reply.Flag false))))
-no-round old left p x e =
+pub no_round : (old : HeapView) (left : ℕ) (p x : ObjectId) → left ≡ 0 → StopsAt old old (instance_round left p x) (Ok (Done (answer.Normal (reply.Flag false))))
+no_round old left p x e =
     let ended : StopsAt old old (says false) (Ok (Done (answer.Normal (reply.Flag false)))) = λ w h. (refl, goes_none old w h) in
     subst (λ n. StopsAt old old (instance_round n p x) (Ok (Done (answer.Normal (reply.Flag false))))) (sym e) ended
 
-pub a-round : (old new : HeapView) (left fewer : ℕ) (p x : ObjectId) (r : Result (Turn PlainFrame) Stop) → left ≡ suc fewer →
+pub a_round : (old new : HeapView) (left fewer : ℕ) (p x : ObjectId) (r : Result (Turn PlainFrame) Stop) → left ≡ suc fewer →
     StopsAt old new (instance_round (suc fewer) p x) r → StopsAt old new (instance_round left p x) r
-a-round old new left fewer p x r e h = subst (λ n. StopsAt old new (instance_round n p x) r) (sym e) h
+a_round old new left fewer p x r e h = subst (λ n. StopsAt old new (instance_round n p x) r) (sym e) h
 
-pub same-collected : (old new : HeapView) (left n : ℕ) (o : ObjectId) (a b : Collected) (r : Result (Turn PlainFrame) Stop) → a ≡ b →
+pub same_collected : (old new : HeapView) (left n : ℕ) (o : ObjectId) (a b : Collected) (r : Result (Turn PlainFrame) Stop) → a ≡ b →
     StopsAt old new (elements_left left n o a) r → StopsAt old new (elements_left left n o b) r
-same-collected old new left n o a b r e h = subst (λ x. StopsAt old new (elements_left left n o x) r) e h
+same_collected old new left n o a b r e h = subst (λ x. StopsAt old new (elements_left left n o x) r) e h
 
-pub same-fields : (old new : HeapView) (fs gs : List Field) (o : ObjectId) (d : Descriptor) (r : Result (Turn PlainFrame) Stop) → fs ≡ gs →
+pub same_fields : (old new : HeapView) (fs gs : List Field) (o : ObjectId) (d : Descriptor) (r : Result (Turn PlainFrame) Stop) → fs ≡ gs →
     StopsAt old new (fields_left gs o d) r → StopsAt old new (fields_left fs o d) r
-same-fields old new fs gs o d r e h = subst (λ x. StopsAt old new (fields_left x o d) r) (sym e) h
+same_fields old new fs gs o d r e h = subst (λ x. StopsAt old new (fields_left x o d) r) (sym e) h
 
-pub same-arguments : (old new : HeapView) (vs us line : List Value) (r : Result (Turn PlainFrame) Stop) → vs ≡ us →
+pub same_arguments : (old new : HeapView) (vs us line : List Value) (r : Result (Turn PlainFrame) Stop) → vs ≡ us →
     StopsAt old new (print_left us line) r → StopsAt old new (print_left vs line) r
-same-arguments old new vs us line r e h = subst (λ x. StopsAt old new (print_left x line) r) (sym e) h
+same_arguments old new vs us line r e h = subst (λ x. StopsAt old new (print_left x line) r) (sym e) h
 
-pub same-line : (old new : HeapView) (vs line more : List Value) (r : Result (Turn PlainFrame) Stop) → more ≡ line →
+pub same_line : (old new : HeapView) (vs line more : List Value) (r : Result (Turn PlainFrame) Stop) → more ≡ line →
     StopsAt old new (print_left vs more) r → StopsAt old new (print_left vs line) r
-same-line old new vs line more r e h = subst (λ x. StopsAt old new (print_left vs x) r) e h
+same_line old new vs line more r e h = subst (λ x. StopsAt old new (print_left vs x) r) e h
 
-pub rounds-by : (old new : HeapView) (v : Value) (p x : ObjectId) (r : Result (Turn PlainFrame) Stop) → Some p ≡ as_object v →
-    StopsAt old new (instance_round most_rounds p x) r → StopsAt old new (prototype_by (as_object v) x) r
-rounds-by old new v p x r e h = subst (λ o. StopsAt old new (prototype_by o x) r) e h
-
-pub all-fields : (old new : HeapView) (v : Value) (o : ObjectId) (d : Descriptor) (r : Result (Turn PlainFrame) Stop) → Some o ≡ as_object v → d ≡ no_fields →
-    StopsAt old new (fields_left (Enumerable ∷ fields_after Enumerable) o d) r → StopsAt old new (to_wanted v) r
-all-fields old new v o d r e none h =
-    subst (λ x. StopsAt old new (wanted_by x) r) e (subst (λ y. StopsAt old new (fields_left (Enumerable ∷ fields_after Enumerable) o y) r) none h)
+pub first_round : (old new : HeapView) (v : Value) (p x : ObjectId) (fewer : ℕ) (r : Result (Turn PlainFrame) Stop) → Some p ≡ as_object v → IsAfterFirst fewer →
+    StopsAt old new (instance_round (suc fewer) p x) r → StopsAt old new (prototype_by (as_object v) x) r
+unfolding IsAfterFirst
+first_round old new v p x fewer r e n h =
+    subst (λ o. StopsAt old new (prototype_by o x) r) e (subst (λ m. StopsAt old new (instance_round m p x) r) (sym n) h)

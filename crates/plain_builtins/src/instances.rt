@@ -8,7 +8,8 @@ ghost use Rattle.es_model.specs.World.{kind};
 ghost use Rattle.es_model.specs.programs.Errors.{not_a_function};
 ghost use Rattle.es_model.specs.programs.Methods.{method_in, with_method};
 ghost use Rattle.es_model.specs.programs.Testing.{as_object, is_callable_kind};
-ghost use Rattle.plain_builtins.specs.Instances.{handler_called, handler_found, handler_given, has_instance, instance_of, instance_round, most_rounds, parent_found, parent_given, prototype_by, prototype_given, same_object};
+ghost use Rattle.plain_builtins.specs.Counting.{IsAfterFirst};
+ghost use Rattle.plain_builtins.specs.Instances.{handler_called, handler_found, handler_given, has_instance, instance_of, instance_round, parent_found, parent_given, prototype_by, prototype_given, same_object};
 ghost use Rattle.es_model.specs.Completions.{answered};
 ghost use Rattle.es_model.specs.World.{World};
 ghost use Rattle.object_heap.specs.Retains.{Retains};
@@ -174,7 +175,8 @@ pub(crate) fn prototype_given<L: Ledger>(
     }
 }
 
-/// Step 5.
+/// Step 5, and the first round of step 6.
+#[tactic(auto, using(crate::proofs::Rounds::first_round))]
 fn prototype_found<L: Ledger>(
     heap: &mut Heap,
     object: ObjectId,
@@ -187,27 +189,17 @@ fn prototype_found<L: Ledger>(
 {
     match as_object(value) {
         None => not_an_object(heap, steps),
-        Some(wanted) => first_round(heap, wanted, object),
+        Some(wanted) => {
+            let left = rounds_after_first();
+            instance_round(heap, Walk { left, wanted }, object)
+        }
     }
 }
 
-/// The first round of step 6.
-fn first_round(
-    heap: &mut Heap,
-    wanted: ObjectId,
-    object: ObjectId,
-) -> Result<Turn<PlainFrame>, Stop>
-    ensures stops { StopsAt heap.old heap.new (instance_round most_rounds wanted object) result }
-    ensures named { (w : World) → IsObject w.lists wanted → KeepsNamed names_of w result }
-    ensures retains { Retains heap.old heap.new }
-{
-    let left = rounds_after_first();
-    instance_round(heap, Walk { left, wanted }, object)
-}
-
 /// One less than there are turns at most, so that no walk ends for want of rounds.
+#[tactic(auto, unfolding(crate::specs::Counting::IsAfterFirst))]
 fn rounds_after_first() -> u64
-    ensures { most_rounds ≡ suc result }
+    ensures { IsAfterFirst result }
 {
     u64::MAX
 }
@@ -263,6 +255,7 @@ fn parent_found(
 }
 
 /// The next round. No walk is so long that none is left.
+#[tactic(auto, using(object_heap::proofs::Retaining::retains_none, object_heap::proofs::Turns::named_done, crate::proofs::Rounds::no_round, crate::proofs::Rounds::a_round))]
 fn next_round(heap: &mut Heap, walk: Walk, object: ObjectId) -> Result<Turn<PlainFrame>, Stop>
     ensures stops { StopsAt heap.old heap.new (instance_round walk.left walk.wanted object) result }
     ensures named { (w : World) → IsObject w.lists walk.wanted → KeepsNamed names_of w result }

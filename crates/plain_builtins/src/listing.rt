@@ -153,6 +153,7 @@ fn to_length(n: i64) -> u64
 }
 
 /// The next round of step 6, or its end.
+#[tactic(auto, using(crate::proofs::Rounds::no_element))]
 fn next_element(heap: &mut Heap, listing: Listing) -> Result<Turn<PlainFrame>, Stop>
     ensures stops { StopsAt heap.old heap.new (elements_left listing.left listing.length listing.object listing.collected) result }
     ensures named { (w : World) → IsObject w.lists listing.object → IsKnownReply w.lists (collected_reply listing.collected) → KeepsNamed names_of w result }
@@ -270,6 +271,7 @@ fn element_put<L: Ledger>(
 }
 
 /// A value more.
+#[tactic(auto, using(object_heap::proofs::Retaining::retains_none, object_heap::proofs::Turns::named_stop, crate::proofs::Rounds::same_collected))]
 fn value_put(
     heap: &mut Heap,
     left: u64,
@@ -319,6 +321,7 @@ fn key_element_put<L: Ledger>(
 }
 
 /// A key more.
+#[tactic(auto, using(object_heap::proofs::Retaining::retains_none, object_heap::proofs::Turns::named_stop, crate::proofs::Rounds::same_collected))]
 fn key_put(
     heap: &mut Heap,
     left: u64,
@@ -342,6 +345,7 @@ fn key_put(
 }
 
 /// The key of a text that is there.
+#[tactic(auto, using(crate::proofs::KeptConversions::key_known))]
 fn key_of(heap: &Heap, text: TextId) -> PropKey
     ensures key { (w : World) → StandsFor heap.now w → result ≡ key_of (units_of w.lists text) text }
     ensures known { (w : World) → StandsFor heap.now w → IsText w.lists text → IsKnownKey w.lists result }

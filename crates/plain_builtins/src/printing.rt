@@ -37,6 +37,7 @@ pub(crate) fn print(
 }
 
 /// The next argument is converted, or the line is asked for.
+#[tactic(auto, using(crate::proofs::Rounds::same_arguments))]
 fn next_argument(alloc: Global, heap: &mut Heap, line: Line) -> Result<Turn<PlainFrame>, Stop>
     ensures stops { StopsAt heap.old heap.new (print_left line.left line.texts) result }
     ensures named { (w : World) → AreKnown w.lists line.left → AreKnown w.lists line.texts → KeepsNamed names_of w result }
@@ -96,6 +97,7 @@ pub(crate) fn argument_given(
     }
 }
 
+#[tactic(auto, using(object_heap::proofs::Retaining::retains_none, object_heap::proofs::Turns::named_stop, crate::proofs::Rounds::same_line))]
 fn text_put(
     alloc: Global,
     heap: &mut Heap,

@@ -7,7 +7,7 @@ ghost use Rattle.es_model.specs.Known.{IsKnown, IsObject};
 ghost use Rattle.es_model.specs.programs.Methods.{get_named};
 ghost use Rattle.object_heap.specs.Stands.{StandsFor};
 ghost use Rattle.plain_builtins.specs.Counting.{fields_from};
-ghost use Rattle.plain_builtins.specs.WantedFields.{field_given, field_had, field_name, field_put, fields_after, fields_left, is_accessor_value, no_fields, to_wanted, wanted_done};
+ghost use Rattle.plain_builtins.specs.WantedFields.{field_given, field_had, field_name, field_put, fields_after, fields_left, is_accessor_value, to_wanted, wanted_done};
 ghost use Rattle.es_model.specs.Completions.{answered};
 ghost use Rattle.es_model.specs.World.{World};
 ghost use Rattle.object_heap.specs.Retains.{Retains};
@@ -71,24 +71,17 @@ pub(crate) fn to_wanted<L: Ledger>(
             let reading = Reading {
                 field: Field::Enumerable,
                 object,
-                descriptor: no_fields(),
+                descriptor: Descriptor {
+                    value: None,
+                    writable: None,
+                    get: None,
+                    set: None,
+                    enumerable: None,
+                    configurable: None,
+                },
             };
             ask_field(heap, reading)
         }
-    }
-}
-
-/// No field is there.
-fn no_fields() -> Descriptor
-    ensures { result ≡ no_fields }
-{
-    Descriptor {
-        value: None,
-        writable: None,
-        get: None,
-        set: None,
-        enumerable: None,
-        configurable: None,
     }
 }
 
@@ -200,6 +193,7 @@ fn is_accessor_value(heap: &Heap, value: Value) -> bool
 }
 
 /// The fields that are left.
+#[tactic(auto, using(crate::proofs::Rounds::same_fields))]
 fn go_on<L: Ledger>(
     heap: &mut Heap,
     reading: Reading,

@@ -241,6 +241,9 @@ TextOfNull = seen (outcome silent mute operation.ToText (value.Null ∷ [])) ≡
 abbrev pub TextOfTruth : Type 0
 TextOfTruth = seen (outcome silent mute operation.ToText (value.Bool true ∷ [])) ≡ (gives (word 7), 10, 0)
 
+abbrev pub TextOfNumber : Type 0
+TextOfNumber = seen (outcome silent mute operation.ToText (value.Whole (negsuc 4) ∷ [])) ≡ (gives (word 8), 10, 0)
+
 abbrev pub TextOfText : Type 0
 TextOfText = seen (outcome silent mute operation.ToText (word 16 ∷ [])) ≡ (gives (word 16), 10, 0)
 
@@ -305,6 +308,29 @@ KeyOfIndex = seen (outcome silent mute operation.ToKey (whole 3 ∷ [])) ≡ (ke
 
 abbrev pub KeyOfSymbol : Type 0
 KeyOfSymbol = seen (outcome silent mute operation.ToKey (a_symbol ∷ [])) ≡ (key_gives (Sym (record { 0 = 0 })), 10, 0)
+
+abbrev pub KeyOfText : Type 0
+KeyOfText = seen (outcome silent mute operation.ToKey (word 16 ∷ [])) ≡ (key_gives (named 16), 10, 0)
+
+-- the text of an index is an index, and one with zeros before it a name
+abbrev pub KeyOfOne : Type 0
+KeyOfOne = seen (outcome silent mute operation.ToKey (word 15 ∷ [])) ≡ (key_gives (Index 1), 10, 0)
+
+abbrev pub KeyOfZeros : Type 0
+KeyOfZeros = seen (outcome silent mute operation.ToKey (word 12 ∷ [])) ≡ (key_gives (named 12), 10, 0)
+
+abbrev pub KeyOfUndefined : Type 0
+KeyOfUndefined = seen (outcome silent mute operation.ToKey (value.Undefined ∷ [])) ≡ (key_gives (named 5), 10, 0)
+
+abbrev pub KeyOfNull : Type 0
+KeyOfNull = seen (outcome silent mute operation.ToKey (value.Null ∷ [])) ≡ (key_gives (named 6), 10, 0)
+
+abbrev pub KeyOfTruth : Type 0
+KeyOfTruth = seen (outcome silent mute operation.ToKey (value.Bool true ∷ [])) ≡ (key_gives (named 7), 10, 0)
+
+-- an object is converted with the type string, and what that gives is the key
+abbrev pub KeyOfObject : Type 0
+KeyOfObject = seen (outcome silent echoes operation.ToKey (object 0 ∷ [])) ≡ (key_gives (named 2), 10, 1)
 
 -- ---- IsLooselyEqual (7.2.14)
 

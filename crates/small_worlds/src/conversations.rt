@@ -1,6 +1,6 @@
 //! Worked examples of the abstract operations.
 
-ghost use Rattle.small_worlds.specs.Conversations.{DefaultPassesOverObject, DefaultThrows, DefaultTriesValueOf, EnumerableIsFirst, FirstIsFirst, GetIsNoFunction, HaltsAtSecond, HandlerDecides, HintOfDefault, HintOfNumber, HintOfText, InstanceHalts, IsInstance, IsNoInstance, KeyOfIndex, KeyOfSymbol, KeysAreKeys, LeftIsFirst, LengthIsConverted, ListHalts, ListKeepsLength, ListOfTwo, MixedThrows, NegativeLength, NoFunctionIsPassedOver, NoLength, NoMethodThrows, NoNumberIsLess, NoNumberThrows, NothingIsLess, NullIsNoZero, NullIsUndefined, NumberOfBinary, NumberOfNothing, NumberOfNull, NumberOfNumber, NumberOfObject, NumberOfPlus, NumberOfSignedHex, NumberOfSymbol, NumberOfTruth, NumberOfUndefined, NumberOfZeros, NumbersInOrder, NumberTooGreat, NumberTriesValueOf, ObjectIsNotNull, ObjectIsPassedOver, ObjectIsText, OwnMethodGivesObject, OwnMethodNoFunction, OwnMethodThrows, PrimitiveIsNoInstance, PrimitiveStays, PrintGivesUndefined, PrintThrows, PrototypeIsNoObject, RightIsFirst, SymbolIsNoText, SymbolIsObject, SymbolStays, TargetIsNoFunction, TargetIsNoObject, TextIsNumber, TextOfNull, TextOfObject, TextOfSymbol, TextOfText, TextOfTruth, TextOfUndefined, TextPassesOverNoFunction, TextsInOrder, TextThrows, TextTriesToString, ThrowIsPassedOn, TruthIsText, TwoObjectsThrow, UndefinedIsNoObject, ValueIsThird, WantedIsNoObject, WrapsNumber};
+ghost use Rattle.small_worlds.specs.Conversations.{DefaultPassesOverObject, DefaultThrows, DefaultTriesValueOf, EnumerableIsFirst, FirstIsFirst, GetIsNoFunction, HaltsAtSecond, HandlerDecides, HintOfDefault, HintOfNumber, HintOfText, InstanceHalts, IsInstance, IsNoInstance, KeyOfIndex, KeyOfNull, KeyOfObject, KeyOfOne, KeyOfSymbol, KeyOfText, KeyOfTruth, KeyOfUndefined, KeyOfZeros, KeysAreKeys, LeftIsFirst, LengthIsConverted, ListHalts, ListKeepsLength, ListOfTwo, MixedThrows, NegativeLength, NoFunctionIsPassedOver, NoLength, NoMethodThrows, NoNumberIsLess, NoNumberThrows, NothingIsLess, NullIsNoZero, NullIsUndefined, NumberOfBinary, NumberOfNothing, NumberOfNull, NumberOfNumber, NumberOfObject, NumberOfPlus, NumberOfSignedHex, NumberOfSymbol, NumberOfTruth, NumberOfUndefined, NumberOfZeros, NumbersInOrder, NumberTooGreat, NumberTriesValueOf, ObjectIsNotNull, ObjectIsPassedOver, ObjectIsText, OwnMethodGivesObject, OwnMethodNoFunction, OwnMethodThrows, PrimitiveIsNoInstance, PrimitiveStays, PrintGivesUndefined, PrintThrows, PrototypeIsNoObject, RightIsFirst, SymbolIsNoText, SymbolIsObject, SymbolStays, TargetIsNoFunction, TargetIsNoObject, TextIsNumber, TextOfNull, TextOfNumber, TextOfObject, TextOfSymbol, TextOfText, TextOfTruth, TextOfUndefined, TextPassesOverNoFunction, TextsInOrder, TextThrows, TextTriesToString, ThrowIsPassedOn, TruthIsText, TwoObjectsThrow, UndefinedIsNoObject, ValueIsThird, WantedIsNoObject, WrapsNumber};
 
 /// ToPrimitive with each hint: which method is tried, what it is told, and what it may give.
 #[tactic(auto, unfolding(es_model::specs::Changes::changed, es_model::specs::Changes::charged, es_model::specs::Changes::added, es_model::specs::Changes::made, es_model::specs::Changes::text_known, es_model::specs::World::allows, es_model::specs::World::number_of))]
@@ -28,12 +28,13 @@ pub fn primitives_are_converted()
     ensures own_method_throws { OwnMethodThrows }
 {}
 
-/// ToString of each kind of value but numbers.
+/// ToString of each kind of value.
 #[tactic(auto, unfolding(es_model::specs::Changes::changed, es_model::specs::Changes::charged, es_model::specs::Changes::added, es_model::specs::Changes::made, es_model::specs::Changes::text_known, es_model::specs::World::allows, es_model::specs::World::number_of))]
 pub fn texts_are_made()
     ensures text_of_undefined { TextOfUndefined }
     ensures text_of_null { TextOfNull }
     ensures text_of_truth { TextOfTruth }
+    ensures text_of_number { TextOfNumber }
     ensures text_of_text { TextOfText }
     ensures text_of_symbol { TextOfSymbol }
     ensures text_of_object { TextOfObject }
@@ -56,11 +57,18 @@ pub fn numbers_are_read()
     ensures number_too_great { NumberTooGreat }
 {}
 
-/// ToPropertyKey: an index and a Symbol.
+/// ToPropertyKey of each kind of value.
 #[tactic(auto, unfolding(es_model::specs::Changes::changed, es_model::specs::Changes::charged, es_model::specs::Changes::added, es_model::specs::Changes::made, es_model::specs::Changes::text_known, es_model::specs::World::allows, es_model::specs::World::number_of))]
 pub fn keys_are_made()
     ensures key_of_index { KeyOfIndex }
     ensures key_of_symbol { KeyOfSymbol }
+    ensures key_of_text { KeyOfText }
+    ensures key_of_one { KeyOfOne }
+    ensures key_of_zeros { KeyOfZeros }
+    ensures key_of_undefined { KeyOfUndefined }
+    ensures key_of_null { KeyOfNull }
+    ensures key_of_truth { KeyOfTruth }
+    ensures key_of_object { KeyOfObject }
 {}
 
 /// IsLooselyEqual of values of two types.
