@@ -47,7 +47,7 @@ fn first_wrong(forest: &mut Forest) -> Result<Option<usize>, NoMemory> {
 fn a_branch_dies_and_grows_anew(rt: HostRuntime) -> Result<(), Fail> {
     let mut forest = Forest::new(rt.alloc());
     assert_eq!(rt; first_wrong(&mut forest)?, None);
-    assert_eq!(rt; forest.len(), 11);
+    assert_eq!(rt; forest.len(), 13);
     Ok(())
 }
 
@@ -66,7 +66,7 @@ fn first_not_next(forest: &mut Forest, count: u32) -> Result<Option<u32>, NoMemo
 #[test]
 fn maps_follow_by_steps(rt: HostRuntime) -> Result<(), Fail> {
     let mut forest = Forest::new(rt.alloc());
-    assert!(rt; seen_at_last(&mut forest, Call::Root(0))? == Seen::Map(Some(0)));
+    assert!(rt; seen_at_last(&mut forest, Call::Root(0, None))? == Seen::Map(Some(0)));
     assert_eq!(rt; first_not_next(&mut forest, 256)?, None);
     assert!(rt; seen_at_last(&mut forest, Call::Grow(256, 255, false))? == Seen::Map(Some(257)));
     assert!(rt; seen_at_last(&mut forest, Call::Shape(256))? == Seen::Shape(256, 0));
@@ -83,7 +83,7 @@ fn maps_follow_by_steps(rt: HostRuntime) -> Result<(), Fail> {
 #[test]
 fn a_path_of_256_steps(rt: HostRuntime) -> Result<(), Fail> {
     let mut forest = Forest::new(rt.alloc());
-    assert!(rt; seen_at_last(&mut forest, Call::Root(0))? == Seen::Map(Some(0)));
+    assert!(rt; seen_at_last(&mut forest, Call::Root(0, None))? == Seen::Map(Some(0)));
     assert_eq!(rt; first_not_next(&mut forest, 256)?, None);
     assert!(rt; seen_at_last(&mut forest, Call::Path(256))? == Seen::Steps(256));
     assert!(rt; seen_at_last(&mut forest, Call::WalkTo(0, 256))? == Seen::Walked(Some(256), 257));

@@ -49,8 +49,8 @@ impl Forest {
     /// What a call gives.
     pub(crate) fn seen(&mut self, call: Call) -> Result<Seen, NoMemory> {
         match call {
-            Call::Root(origin) => {
-                let root = self.tree.root(&mut self.maps, OriginId(origin), None)?;
+            Call::Root(origin, prototype) => {
+                let root = self.tree.root(&mut self.maps, OriginId(origin), prototype)?;
                 Ok(Seen::Map(Some(root.0)))
             }
             Call::Grow(map, key, writable) => {

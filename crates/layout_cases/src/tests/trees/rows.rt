@@ -3,11 +3,13 @@
 use Call::{Close, Current, Drop, Grow, Keep, Kept, Live, Parent, Path, Root, Walk};
 use Seen::{Done, Is, Lives, Map, NotMeant, Steps};
 use map_store::Representation::{self, None as Unkept, Smi, Tagged};
+use property_keys::ObjectId;
 
 /// What is asked of a tree. Maps and origins are given by their numbers, and steps that add a stored property by keys.
 #[derive(Clone, Copy)]
 pub(crate) enum Call {
-    Root(u32),
+    /// The root of an origin with a prototype.
+    Root(u32, Option<ObjectId>),
     /// Adds a key, or redefines it where an entry has it. The flag says whether it is writable.
     Grow(u32, u32, bool),
     Close(u32),
@@ -43,10 +45,10 @@ pub(crate) enum Seen {
     NotMeant,
 }
 
-pub(crate) const ROWS: [(Call, Seen); 44] = [
-    (Root(0), Map(Some(0))),
-    (Root(1), Map(Some(1))),
-    (Root(0), Map(Some(0))),
+pub(crate) const ROWS: [(Call, Seen); 48] = [
+    (Root(0, None), Map(Some(0))),
+    (Root(1, None), Map(Some(1))),
+    (Root(0, None), Map(Some(0))),
     // Three branches below map 0: 2 and 3, 4 with the same keys in the other order, and 5.
     (Grow(0, 7, true), Map(Some(2))),
     (Grow(2, 8, true), Map(Some(3))),
@@ -92,4 +94,9 @@ pub(crate) const ROWS: [(Call, Seen); 44] = [
     (Parent(3), Map(Some(2))),
     (Parent(10), Map(Some(2))),
     (Grow(3, 1, true), NotMeant),
+    // Each prototype has a root of its own.
+    (Root(0, Some(ObjectId(3))), Map(Some(11))),
+    (Root(0, Some(ObjectId(4))), Map(Some(12))),
+    (Root(0, Some(ObjectId(3))), Map(Some(11))),
+    (Root(0, None), Map(Some(0))),
 ];
