@@ -11,6 +11,7 @@ ghost use Rattle.evaluator.specs.declared.items.Plan.TheVariants as plan;
 ghost use Rattle.evaluator.specs.declared.references.Reference.TheVariants as reference_of;
 ghost use Rattle.evaluator.specs.Plans.{PlansAt, access_valued, purpose_program};
 ghost use Rattle.evaluator.specs.References.{name_of, resolve, resolve_bound};
+ghost use Rattle.object_heap.specs.Retains.{Retains};
 
 use crate::calls::callee_reference;
 use crate::cells::Cells;
@@ -52,7 +53,8 @@ pub(crate) fn purpose_plan<L: Ledger>(
     reference: Reference,
     steps: &mut Steps<L>,
 ) -> Result<Plan, Stop>
-    ensures { PlansAt script.now body cells.now heap.old heap.new (λ here. purpose_program here purpose reference) result }
+    ensures plans { PlansAt script.now body cells.now heap.old heap.new (λ here. purpose_program here purpose reference) result }
+    ensures retains { Retains heap.old heap.new }
 {
     match purpose {
         Purpose::Read => get_value(heap, script, body, cells, reference, Reading::Give, steps),
@@ -107,7 +109,8 @@ fn resolve_bound<L: Ledger>(
     purpose: Purpose,
     steps: &mut Steps<L>,
 ) -> Result<Plan, Stop>
-    ensures { PlansAt script.now body cells.now heap.old heap.new (λ here. resolve_bound here name binding (purpose_program here purpose)) result }
+    ensures plans { PlansAt script.now body cells.now heap.old heap.new (λ here. resolve_bound here name binding (purpose_program here purpose)) result }
+    ensures retains { Retains heap.old heap.new }
 {
     match binding {
         Binding::Global => {
@@ -141,7 +144,7 @@ fn resolve_bound<L: Ledger>(
 }
 
 /// ResolveBinding (9.4.2), and what is done with the reference.
-#[tactic(auto, using(object_heap::specs::Stands::goes_none, object_heap::specs::Stands::goes_then, object_heap::specs::Stands::halts_at, crate::proofs::Planned::plans_then))]
+#[tactic(auto, using(object_heap::specs::Stands::goes_none, object_heap::specs::Stands::goes_then, object_heap::specs::Stands::halts_at, object_heap::proofs::Retaining::retains_none, object_heap::proofs::Retaining::retains_then, crate::proofs::Planned::plans_then))]
 pub(crate) fn resolve<L: Ledger>(
     heap: &mut Heap,
     script: &Checked,
@@ -151,7 +154,8 @@ pub(crate) fn resolve<L: Ledger>(
     purpose: Purpose,
     steps: &mut Steps<L>,
 ) -> Result<Plan, Stop>
-    ensures { PlansAt script.now body cells.now heap.old heap.new (λ here. resolve here named.now (purpose_program here purpose)) result }
+    ensures plans { PlansAt script.now body cells.now heap.old heap.new (λ here. resolve here named.now (purpose_program here purpose)) result }
+    ensures retains { Retains heap.old heap.new }
 {
     let name = intern(heap, &named.name)?;
     resolve_bound(
@@ -178,7 +182,8 @@ fn member<L: Ledger>(
     purpose: Purpose,
     steps: &mut Steps<L>,
 ) -> Result<Plan, Stop>
-    ensures { PlansAt script.now body cells.now heap.old heap.new (λ here. access_reference here (access.Member base name.now read write) (purpose_program here purpose)) result }
+    ensures plans { PlansAt script.now body cells.now heap.old heap.new (λ here. access_reference here (access.Member base name.now read write) (purpose_program here purpose)) result }
+    ensures retains { Retains heap.old heap.new }
 {
     let text = intern(heap, name)?;
     let key = key_of(heap, text);
@@ -206,7 +211,8 @@ pub(crate) fn access_reference<L: Ledger>(
     purpose: Purpose,
     steps: &mut Steps<L>,
 ) -> Result<Plan, Stop>
-    ensures { PlansAt script.now body cells.now heap.old heap.new (λ here. access_reference here access.now (purpose_program here purpose)) result }
+    ensures plans { PlansAt script.now body cells.now heap.old heap.new (λ here. access_reference here access.now (purpose_program here purpose)) result }
+    ensures retains { Retains heap.old heap.new }
 {
     match access {
         Access::Member {
@@ -239,7 +245,7 @@ pub(crate) fn access_reference<L: Ledger>(
 }
 
 /// An access as a target, with its turn.
-#[tactic(auto, using(object_heap::specs::Stands::goes_none, object_heap::specs::Stands::goes_then, object_heap::specs::Stands::halts_at, crate::proofs::Planned::plans_then))]
+#[tactic(auto, using(object_heap::specs::Stands::goes_none, object_heap::specs::Stands::goes_then, object_heap::specs::Stands::halts_at, object_heap::proofs::Retaining::retains_none, object_heap::proofs::Retaining::retains_then, crate::proofs::Planned::plans_then))]
 pub(crate) fn access_target<L: Ledger>(
     heap: &mut Heap,
     script: &Checked,
@@ -249,7 +255,8 @@ pub(crate) fn access_target<L: Ledger>(
     purpose: Purpose,
     steps: &mut Steps<L>,
 ) -> Result<Plan, Stop>
-    ensures { PlansAt script.now body cells.now heap.old heap.new (λ here. charge 1 (access_reference here access.now (purpose_program here purpose))) result }
+    ensures plans { PlansAt script.now body cells.now heap.old heap.new (λ here. charge 1 (access_reference here access.now (purpose_program here purpose))) result }
+    ensures retains { Retains heap.old heap.new }
 {
     heap.charge(1)?;
     access_reference(heap, script, body, cells, access, purpose, steps)
@@ -264,7 +271,8 @@ fn target_node<L: Ledger>(
     purpose: Purpose,
     steps: &mut Steps<L>,
 ) -> Result<Plan, Stop>
-    ensures { PlansAt script.now body cells.now heap.old heap.new (λ here. target_at here (purpose_program here purpose) (Some node.now)) result }
+    ensures plans { PlansAt script.now body cells.now heap.old heap.new (λ here. target_at here (purpose_program here purpose) (Some node.now)) result }
+    ensures retains { Retains heap.old heap.new }
 {
     match node {
         Node::Access(access) => access_target(heap, script, body, cells, access, purpose, steps),
@@ -283,7 +291,8 @@ pub(crate) fn target_reference<L: Ledger>(
     purpose: Purpose,
     steps: &mut Steps<L>,
 ) -> Result<Plan, Stop>
-    ensures { PlansAt script.now body cells.now heap.old heap.new (λ here. target_reference here target.now (purpose_program here purpose)) result }
+    ensures plans { PlansAt script.now body cells.now heap.old heap.new (λ here. target_reference here target.now (purpose_program here purpose)) result }
+    ensures retains { Retains heap.old heap.new }
 {
     match target {
         Target::Name(named) => resolve(heap, script, body, cells, named, purpose, steps),
@@ -344,7 +353,8 @@ pub(crate) fn access_valued<L: Ledger>(
     value: Value,
     steps: &mut Steps<L>,
 ) -> Result<Plan, Stop>
-    ensures { PlansAt script.now body cells.now heap.old heap.new (λ here. access_valued here item value) result }
+    ensures plans { PlansAt script.now body cells.now heap.old heap.new (λ here. access_valued here item value) result }
+    ensures retains { Retains heap.old heap.new }
 {
     match item {
         AccessItem::MemberBased {

@@ -4,6 +4,7 @@ ghost use Rattle.evaluator.specs.Plans.{PlansAt, asked_program, flag_answered, k
 ghost use Rattle.std.specs.Prelude.{◌≡◌};
 ghost use Rattle.es_model.specs.Completions.{answered};
 ghost use Rattle.evaluator.specs.declared.references.Reference.TheVariants as reference;
+ghost use Rattle.object_heap.specs.Retains.{Retains};
 
 use crate::accesses::{property_reference, purpose_plan};
 use crate::arithmetic::{add_primitives, calculated, joined, negated, update_number};
@@ -28,7 +29,8 @@ fn value_answered<L: Ledger>(
     value: Value,
     steps: &mut Steps<L>,
 ) -> Result<Plan, Stop>
-    ensures { PlansAt script.now body cells.now heap.old heap.new (λ here. value_answered here asked value) result }
+    ensures plans { PlansAt script.now body cells.now heap.old heap.new (λ here. value_answered here asked value) result }
+    ensures retains { Retains heap.old heap.new }
 {
     match asked {
         ValueAsked::Read(reading) => reading_valued(
@@ -127,7 +129,8 @@ fn flag_answered<L: Ledger>(
     flag: bool,
     steps: &mut Steps<L>,
 ) -> Result<Plan, Stop>
-    ensures { PlansAt script.now body cells.now heap.old heap.new (λ here. flag_answered here asked flag) result }
+    ensures plans { PlansAt script.now body cells.now heap.old heap.new (λ here. flag_answered here asked flag) result }
+    ensures retains { Retains heap.old heap.new }
 {
     match asked {
         FlagAsked::Looked { name, key, purpose } => {
@@ -173,7 +176,8 @@ fn key_answered<L: Ledger>(
     key: PropKey,
     steps: &mut Steps<L>,
 ) -> Result<Plan, Stop>
-    ensures { PlansAt script.now body cells.now heap.old heap.new (λ here. key_answered here asked key) result }
+    ensures plans { PlansAt script.now body cells.now heap.old heap.new (λ here. key_answered here asked key) result }
+    ensures retains { Retains heap.old heap.new }
 {
     match asked {
         KeyAsked::KeyConverted {
@@ -204,7 +208,8 @@ pub(crate) fn asked_plan<L: Ledger>(
     answer: Completion,
     steps: &mut Steps<L>,
 ) -> Result<Plan, Stop>
-    ensures { PlansAt script.now body cells.now heap.old heap.new (λ here. asked_program here asked (answered answer)) result }
+    ensures plans { PlansAt script.now body cells.now heap.old heap.new (λ here. asked_program here asked (answered answer)) result }
+    ensures retains { Retains heap.old heap.new }
 {
     match asked {
         Asked::Value(next) => match answer.value() {

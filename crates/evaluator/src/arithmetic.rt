@@ -5,6 +5,7 @@ ghost use Rattle.evaluator.specs.Operators.{add_primitives, apply, calculated, f
 ghost use Rattle.evaluator.specs.Plans.{PlansAt};
 ghost use Rattle.property_keys.specs.declared.values.Value.TheVariants as values;
 ghost use Rattle.evaluator.specs.Values.{calculate, or_out};
+ghost use Rattle.object_heap.specs.Retains.{Retains};
 
 use crate::cells::Cells;
 use crate::items::{Asked, Ending, Plan, ValueAsked};
@@ -28,7 +29,8 @@ fn finished<L: Ledger>(
     value: Value,
     steps: &mut Steps<L>,
 ) -> Result<Plan, Stop>
-    ensures { PlansAt script.now body cells.now heap.old heap.new (λ here. finished here finish value) result }
+    ensures plans { PlansAt script.now body cells.now heap.old heap.new (λ here. finished here finish value) result }
+    ensures retains { Retains heap.old heap.new }
 {
     match finish {
         Finish::Give => Ok(Plan::Ends(Ending::Gives(value))),
@@ -49,7 +51,8 @@ fn number_calculated<L: Ledger>(
     b: i64,
     steps: &mut Steps<L>,
 ) -> Result<Plan, Stop>
-    ensures { PlansAt script.now body cells.now heap.old heap.new (λ here. or_out (calculate operator a b) (λ n. finished here finish (values.Whole n))) result }
+    ensures plans { PlansAt script.now body cells.now heap.old heap.new (λ here. or_out (calculate operator a b) (λ n. finished here finish (values.Whole n))) result }
+    ensures retains { Retains heap.old heap.new }
 {
     match result_of(operator, a, b) {
         None => out_of_profile(heap, script, body, cells, steps),
@@ -69,7 +72,8 @@ pub(crate) fn calculated<L: Ledger>(
     right: Value,
     steps: &mut Steps<L>,
 ) -> Result<Plan, Stop>
-    ensures { PlansAt script.now body cells.now heap.old heap.new (λ here. calculated here operator finish left right) result }
+    ensures plans { PlansAt script.now body cells.now heap.old heap.new (λ here. calculated here operator finish left right) result }
+    ensures retains { Retains heap.old heap.new }
 {
     match left {
         Value::Whole(a) => match right {
@@ -103,7 +107,8 @@ fn numbers<L: Ledger>(
     b: Value,
     steps: &mut Steps<L>,
 ) -> Result<Plan, Stop>
-    ensures { PlansAt script.now body cells.now heap.old heap.new (λ here. numbers here operator finish a b) result }
+    ensures plans { PlansAt script.now body cells.now heap.old heap.new (λ here. numbers here operator finish a b) result }
+    ensures retains { Retains heap.old heap.new }
 {
     let next = ValueAsked::LeftNumber {
         operator,
@@ -122,7 +127,7 @@ fn numbers<L: Ledger>(
     )
 }
 
-#[tactic(auto, using(object_heap::specs::Stands::goes_none, object_heap::specs::Stands::goes_then, object_heap::specs::Stands::halts_at, crate::proofs::Planned::plans_then))]
+#[tactic(auto, using(object_heap::specs::Stands::goes_none, object_heap::specs::Stands::goes_then, object_heap::specs::Stands::halts_at, object_heap::proofs::Retaining::retains_none, object_heap::proofs::Retaining::retains_then, crate::proofs::Planned::plans_then))]
 fn texts_joined<L: Ledger>(
     heap: &mut Heap,
     script: &Checked,
@@ -133,7 +138,8 @@ fn texts_joined<L: Ledger>(
     b: TextId,
     steps: &mut Steps<L>,
 ) -> Result<Plan, Stop>
-    ensures { PlansAt script.now body cells.now heap.old heap.new (λ here. joined here finish (values.Text a) (values.Text b)) result }
+    ensures plans { PlansAt script.now body cells.now heap.old heap.new (λ here. joined here finish (values.Text a) (values.Text b)) result }
+    ensures retains { Retains heap.old heap.new }
 {
     match join(heap, a, b)? {
         None => text_too_long(heap, script, body, cells, steps),
@@ -152,7 +158,8 @@ pub(crate) fn joined<L: Ledger>(
     right: Value,
     steps: &mut Steps<L>,
 ) -> Result<Plan, Stop>
-    ensures { PlansAt script.now body cells.now heap.old heap.new (λ here. joined here finish left right) result }
+    ensures plans { PlansAt script.now body cells.now heap.old heap.new (λ here. joined here finish left right) result }
+    ensures retains { Retains heap.old heap.new }
 {
     match left {
         Value::Text(a) => match right {
@@ -184,7 +191,8 @@ pub(crate) fn add_primitives<L: Ledger>(
     b: Value,
     steps: &mut Steps<L>,
 ) -> Result<Plan, Stop>
-    ensures { PlansAt script.now body cells.now heap.old heap.new (λ here. add_primitives here finish a b) result }
+    ensures plans { PlansAt script.now body cells.now heap.old heap.new (λ here. add_primitives here finish a b) result }
+    ensures retains { Retains heap.old heap.new }
 {
     if is_text(a) || is_text(b) {
         let next = ValueAsked::LeftText { finish, right: b };
@@ -224,7 +232,8 @@ pub(crate) fn apply<L: Ledger>(
     b: Value,
     steps: &mut Steps<L>,
 ) -> Result<Plan, Stop>
-    ensures { PlansAt script.now body cells.now heap.old heap.new (λ here. apply here operator finish a b) result }
+    ensures plans { PlansAt script.now body cells.now heap.old heap.new (λ here. apply here operator finish a b) result }
+    ensures retains { Retains heap.old heap.new }
 {
     match operator {
         Arithmetic::Add => {
@@ -284,7 +293,8 @@ fn number_negated<L: Ledger>(
     n: i64,
     steps: &mut Steps<L>,
 ) -> Result<Plan, Stop>
-    ensures { PlansAt script.now body cells.now heap.old heap.new (λ here. negated (values.Whole n)) result }
+    ensures plans { PlansAt script.now body cells.now heap.old heap.new (λ here. negated (values.Whole n)) result }
+    ensures retains { Retains heap.old heap.new }
 {
     match negative_of(n) {
         None => out_of_profile(heap, script, body, cells, steps),
@@ -301,7 +311,8 @@ pub(crate) fn negated<L: Ledger>(
     value: Value,
     steps: &mut Steps<L>,
 ) -> Result<Plan, Stop>
-    ensures { PlansAt script.now body cells.now heap.old heap.new (λ here. negated value) result }
+    ensures plans { PlansAt script.now body cells.now heap.old heap.new (λ here. negated value) result }
+    ensures retains { Retains heap.old heap.new }
 {
     match value {
         Value::Whole(n) => number_negated(heap, script, body, cells, n, steps),
@@ -325,7 +336,8 @@ fn number_updated<L: Ledger>(
     n: i64,
     steps: &mut Steps<L>,
 ) -> Result<Plan, Stop>
-    ensures { PlansAt script.now body cells.now heap.old heap.new (λ here. update_number here increment prefix reference (values.Whole n)) result }
+    ensures plans { PlansAt script.now body cells.now heap.old heap.new (λ here. update_number here increment prefix reference (values.Whole n)) result }
+    ensures retains { Retains heap.old heap.new }
 {
     match step(increment, n) {
         None => out_of_profile(heap, script, body, cells, steps),
@@ -357,7 +369,8 @@ pub(crate) fn update_number<L: Ledger>(
     value: Value,
     steps: &mut Steps<L>,
 ) -> Result<Plan, Stop>
-    ensures { PlansAt script.now body cells.now heap.old heap.new (λ here. update_number here increment prefix reference value) result }
+    ensures plans { PlansAt script.now body cells.now heap.old heap.new (λ here. update_number here increment prefix reference value) result }
+    ensures retains { Retains heap.old heap.new }
 {
     match value {
         Value::Whole(n) => number_updated(

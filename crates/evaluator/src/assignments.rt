@@ -2,6 +2,7 @@
 
 ghost use Rattle.evaluator.specs.Assignments.{assignment};
 ghost use Rattle.evaluator.specs.Plans.{PlansAt};
+ghost use Rattle.object_heap.specs.Retains.{Retains};
 
 use crate::accesses::target_reference;
 use crate::cells::Cells;
@@ -22,7 +23,8 @@ pub(crate) fn assignment<L: Ledger>(
     value: NodeId,
     steps: &mut Steps<L>,
 ) -> Result<Plan, Stop>
-    ensures { PlansAt script.now body cells.now heap.old heap.new (λ here. assignment here operator target.now value) result }
+    ensures plans { PlansAt script.now body cells.now heap.old heap.new (λ here. assignment here operator target.now value) result }
+    ensures retains { Retains heap.old heap.new }
 {
     match operator {
         AssignOperator::Plain => target_reference(

@@ -8,6 +8,7 @@ ghost use Rattle.evaluator.specs.Contexts.{evaluate};
 ghost use Rattle.evaluator.specs.Plans.{PlansAt, reading_program};
 ghost use Rattle.evaluator.specs.References.{base_of};
 ghost use Rattle.evaluator.specs.declared.items.Reading.TheVariants as reading_of;
+ghost use Rattle.object_heap.specs.Retains.{Retains};
 
 use crate::accesses::access_target;
 use crate::cells::Cells;
@@ -30,7 +31,8 @@ fn construct<L: Ledger>(
     arguments: Values,
     steps: &mut Steps<L>,
 ) -> Result<Plan, Stop>
-    ensures { PlansAt script.now body cells.now heap.old heap.new (λ here. construct constructor arguments) result }
+    ensures plans { PlansAt script.now body cells.now heap.old heap.new (λ here. construct constructor arguments) result }
+    ensures retains { Retains heap.old heap.new }
 {
     match constructor {
         Value::Object(function) => {
@@ -60,7 +62,8 @@ fn invoke<L: Ledger>(
     arguments: Values,
     steps: &mut Steps<L>,
 ) -> Result<Plan, Stop>
-    ensures { PlansAt script.now body cells.now heap.old heap.new (λ here. invoke invocation arguments) result }
+    ensures plans { PlansAt script.now body cells.now heap.old heap.new (λ here. invoke invocation arguments) result }
+    ensures retains { Retains heap.old heap.new }
 {
     match invocation {
         Invocation::Call { function, this } => {
@@ -95,7 +98,8 @@ pub(crate) fn arguments_from<L: Ledger>(
     given: Values,
     steps: &mut Steps<L>,
 ) -> Result<Plan, Stop>
-    ensures { PlansAt script.now body cells.now heap.old heap.new (λ here. arguments_from here invocation (drop next (arguments_at here node)) given) result }
+    ensures plans { PlansAt script.now body cells.now heap.old heap.new (λ here. arguments_from here invocation (drop next (arguments_at here node)) given) result }
+    ensures retains { Retains heap.old heap.new }
 {
     match argument_at(script, node, next) {
         None => invoke(heap, script, body, cells, invocation, given, steps),
@@ -127,7 +131,8 @@ pub(crate) fn argument_valued<L: Ledger>(
     value: Value,
     steps: &mut Steps<L>,
 ) -> Result<Plan, Stop>
-    ensures { PlansAt script.now body cells.now heap.old heap.new (λ here. arguments_from here invocation (drop next (arguments_at here node)) (given ++ value ∷ [])) result }
+    ensures plans { PlansAt script.now body cells.now heap.old heap.new (λ here. arguments_from here invocation (drop next (arguments_at here node)) (given ++ value ∷ [])) result }
+    ensures retains { Retains heap.old heap.new }
 {
     let mut given = given;
     given.push(value)?;
@@ -157,7 +162,8 @@ pub(crate) fn callee_reference<L: Ledger>(
     reference: Reference,
     steps: &mut Steps<L>,
 ) -> Result<Plan, Stop>
-    ensures { PlansAt script.now body cells.now heap.old heap.new (λ here. callee_reference here node reference) result }
+    ensures plans { PlansAt script.now body cells.now heap.old heap.new (λ here. callee_reference here node reference) result }
+    ensures retains { Retains heap.old heap.new }
 {
     let reading = Reading::Callee {
         node,
@@ -176,7 +182,8 @@ fn plain_callee<L: Ledger>(
     callee: NodeId,
     steps: &mut Steps<L>,
 ) -> Result<Plan, Stop>
-    ensures { PlansAt script.now body cells.now heap.old heap.new (λ here. evaluate here callee (reading_program here (reading_of.Callee node values.Undefined))) result }
+    ensures plans { PlansAt script.now body cells.now heap.old heap.new (λ here. evaluate here callee (reading_program here (reading_of.Callee node values.Undefined))) result }
+    ensures retains { Retains heap.old heap.new }
 {
     Ok(Plan::Wait(
         Job::Node {
@@ -200,7 +207,8 @@ fn callee_access<L: Ledger>(
     access: &Access,
     steps: &mut Steps<L>,
 ) -> Result<Plan, Stop>
-    ensures { PlansAt script.now body cells.now heap.old heap.new (λ here. call_of here node callee (Some (node_of.Access access.now))) result }
+    ensures plans { PlansAt script.now body cells.now heap.old heap.new (λ here. call_of here node callee (Some (node_of.Access access.now))) result }
+    ensures retains { Retains heap.old heap.new }
 {
     match access {
         Access::Member { .. } | Access::Index { .. } => access_target(
@@ -228,7 +236,8 @@ fn callee_node<L: Ledger>(
     found: &Node,
     steps: &mut Steps<L>,
 ) -> Result<Plan, Stop>
-    ensures { PlansAt script.now body cells.now heap.old heap.new (λ here. call_of here node callee (Some found.now)) result }
+    ensures plans { PlansAt script.now body cells.now heap.old heap.new (λ here. call_of here node callee (Some found.now)) result }
+    ensures retains { Retains heap.old heap.new }
 {
     match found {
         Node::Access(access) => callee_access(
@@ -249,7 +258,8 @@ pub(crate) fn call_expression<L: Ledger>(
     callee: NodeId,
     steps: &mut Steps<L>,
 ) -> Result<Plan, Stop>
-    ensures { PlansAt script.now body cells.now heap.old heap.new (λ here. call_expression here node callee) result }
+    ensures plans { PlansAt script.now body cells.now heap.old heap.new (λ here. call_expression here node callee) result }
+    ensures retains { Retains heap.old heap.new }
 {
     match node_at(script, callee) {
         None => plain_callee(heap, script, body, cells, node, callee, steps),
@@ -266,7 +276,8 @@ pub(crate) fn new_expression<L: Ledger>(
     callee: NodeId,
     steps: &mut Steps<L>,
 ) -> Result<Plan, Stop>
-    ensures { PlansAt script.now body cells.now heap.old heap.new (λ here. new_expression here node callee) result }
+    ensures plans { PlansAt script.now body cells.now heap.old heap.new (λ here. new_expression here node callee) result }
+    ensures retains { Retains heap.old heap.new }
 {
     Ok(Plan::Wait(
         Job::Node {

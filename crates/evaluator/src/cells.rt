@@ -2,6 +2,7 @@
 
 ghost use Rattle.std.specs.Prelude.{◌≡◌, ◌++◌, ◌∷◌, [], OnOk, length, take};
 ghost use Rattle.es_model.specs.World.{World};
+ghost use Rattle.object_heap.specs.Retains.{Retains};
 ghost use Rattle.object_heap.specs.Stands.{Goes, StandsFor};
 ghost use Rattle.evaluator.specs.References.{cell_in_force};
 ghost use Rattle.evaluator.specs.Scopes.{fresh_cells, world_with};
@@ -73,6 +74,7 @@ pub(crate) fn make_cells(heap: &mut Heap, cells: &mut Cells, n: u32) -> Result<(
     ensures goes { OnOk result ((w : World) → StandsFor heap.old w → Goes heap.old heap.new w (world_with n w)) }
     ensures front { OnOk result (take (length cells.old) cells.new ≡ cells.old) }
     ensures cells { OnOk result ((w : World) → StandsFor heap.old w → cells.new ≡ cells.old ++ fresh_cells n w) }
+    ensures retains { Retains heap.old heap.new }
 {
     let mut left = n;
     'cells: while left > 0 {

@@ -8,6 +8,7 @@ ghost use Rattle.evaluator.specs.Contexts.{context};
 ghost use Rattle.evaluator.specs.Plans.{PlansAt, ended};
 ghost use Rattle.evaluator.specs.Scopes.{bound_cell};
 ghost use Rattle.evaluator.specs.Statements.{declare_all, declared_at, declared_in, declared_valued};
+ghost use Rattle.object_heap.specs.Retains.{Retains};
 
 use crate::cells::Cells;
 use crate::endings::value_of;
@@ -130,7 +131,8 @@ pub(crate) fn declare_from<L: Ledger>(
     first: usize,
     steps: &mut Steps<L>,
 ) -> Result<Plan, Stop>
-    ensures { PlansAt script.now body cells.now heap.old heap.new (λ here. declare_all here (drop first (declared_at here node))) result }
+    ensures plans { PlansAt script.now body cells.now heap.old heap.new (λ here. declare_all here (drop first (declared_at here node))) result }
+    ensures retains { Retains heap.old heap.new }
 {
     let count = declared_count(script, node);
     let mut next = first;
@@ -170,7 +172,8 @@ pub(crate) fn declared_valued<L: Ledger>(
     end: Ending,
     steps: &mut Steps<L>,
 ) -> Result<Plan, Stop>
-    ensures { PlansAt script.now body cells.now heap.old heap.new (λ here. declared_valued here (drop next (declared_at here node)) (ended end)) result }
+    ensures plans { PlansAt script.now body cells.now heap.old heap.new (λ here. declared_valued here (drop next (declared_at here node)) (ended end)) result }
+    ensures retains { Retains heap.old heap.new }
 {
     if next >= declared_count(script, node) {
         return Ok(Plan::Ends(Ending::Gives(Value::Undefined)));

@@ -17,6 +17,7 @@ ghost use Rattle.evaluator.specs.declared.items.Item.TheVariants as item_of;
 ghost use Rattle.evaluator.specs.declared.items.Job.TheVariants as job;
 ghost use Rattle.evaluator.specs.declared.items.LiteralItem.TheVariants as literal;
 ghost use Rattle.evaluator.specs.declared.items.Plan.TheVariants as plan;
+ghost use Rattle.object_heap.specs.Retains.{Retains};
 ghost use Rattle.object_heap.specs.Stands.{Goes, HeapView, StandsFor};
 ghost use Rattle.property_keys.specs.declared.values.Value.TheVariants as values;
 
@@ -177,7 +178,8 @@ fn define<L: Ledger>(
     value: Value,
     steps: &mut Steps<L>,
 ) -> Result<(), NoMemory>
-    ensures { OnOk result ((w : World) → StandsFor heap.old w → Goes heap.old heap.new w (changed (Defining object key (made_by made value)) w)) }
+    ensures goes { OnOk result ((w : World) → StandsFor heap.old w → Goes heap.old heap.new w (changed (Defining object key (made_by made value)) w)) }
+    ensures retains { Retains heap.old heap.new }
 {
     heap.define_own(object, key, &made_of(made, value), steps)?;
     Ok(())
@@ -234,7 +236,8 @@ fn method_keyed<L: Ledger>(
     steps: &mut Steps<L>,
 ) -> Result<Plan, Stop>
     requires { length prefix.now ≤ 100 }
-    ensures { PlansAt script.now body cells.now heap.old heap.new (λ here. method_keyed here place.object prefix.now (made_by made) method (definitions_from here place.node place.next place.object) key) result }
+    ensures plans { PlansAt script.now body cells.now heap.old heap.new (λ here. method_keyed here place.object prefix.now (made_by made) method (definitions_from here place.node place.next place.object) key) result }
+    ensures retains { Retains heap.old heap.new }
 {
     match name_of_key(heap, prefix, key)? {
         None => text_too_long(heap, script, body, cells, steps),
@@ -253,7 +256,8 @@ fn value_keyed<L: Ledger>(
     value: NodeId,
     steps: &mut Steps<L>,
 ) -> Result<Plan, Stop>
-    ensures { PlansAt script.now body cells.now heap.old heap.new (λ here. value_keyed here place.object value (definitions_from here place.node place.next place.object) key) result }
+    ensures plans { PlansAt script.now body cells.now heap.old heap.new (λ here. value_keyed here place.object value (definitions_from here place.node place.next place.object) key) result }
+    ensures retains { Retains heap.old heap.new }
 {
     if is_anonymous(script, value) {
         let made = Made::Plain;
@@ -276,7 +280,8 @@ fn property_keyed<L: Ledger>(
     key: PropKey,
     steps: &mut Steps<L>,
 ) -> Result<Plan, Stop>
-    ensures { PlansAt script.now body cells.now heap.old heap.new (λ here. property_keyed here place.object (property.now ∷ drop place.next (properties_at here place.node)) key) result }
+    ensures plans { PlansAt script.now body cells.now heap.old heap.new (λ here. property_keyed here place.object (property.now ∷ drop place.next (properties_at here place.node)) key) result }
+    ensures retains { Retains heap.old heap.new }
 {
     match property {
         Property::Value { value, .. } => value_keyed(
@@ -316,7 +321,8 @@ pub(crate) fn definition_keyed<L: Ledger>(
     key: PropKey,
     steps: &mut Steps<L>,
 ) -> Result<Plan, Stop>
-    ensures { PlansAt script.now body cells.now heap.old heap.new (λ here. property_keyed here object (drop at (properties_at here node)) key) result }
+    ensures plans { PlansAt script.now body cells.now heap.old heap.new (λ here. property_keyed here object (drop at (properties_at here node)) key) result }
+    ensures retains { Retains heap.old heap.new }
 {
     if at >= property_count(script, node) {
         return Ok(whole(object));
@@ -347,7 +353,8 @@ fn property_key<L: Ledger>(
     steps: &mut Steps<L>,
 ) -> Result<Plan, Stop>
     requires { StandsAt script.now place.node place.at place.next property.now }
-    ensures { PlansAt script.now body cells.now heap.old heap.new (λ here. property_key here name.now (property_keyed here place.object (property.now ∷ drop place.next (properties_at here place.node)))) result }
+    ensures plans { PlansAt script.now body cells.now heap.old heap.new (λ here. property_key here name.now (property_keyed here place.object (property.now ∷ drop place.next (properties_at here place.node)))) result }
+    ensures retains { Retains heap.old heap.new }
 {
     match name {
         Key::Fixed(units) => {
@@ -380,7 +387,8 @@ fn name_valued<L: Ledger>(
     value: Value,
     steps: &mut Steps<L>,
 ) -> Result<Option<Plan>, Stop>
-    ensures { (here : Context) (rest : Program) (w : World) → StandsFor heap.old w → Defines here heap.old heap.new w (define object key (plain value) (λ succeeded. rest)) rest result }
+    ensures defines { (here : Context) (rest : Program) (w : World) → StandsFor heap.old w → Defines here heap.old heap.new w (define object key (plain value) (λ succeeded. rest)) rest result }
+    ensures retains { Retains heap.old heap.new }
 {
     define(heap, object, key, Made::Plain, value, steps)?;
     Ok(None)
@@ -397,7 +405,8 @@ fn name_in_cell<L: Ledger>(
     key: PropKey,
     steps: &mut Steps<L>,
 ) -> Result<Option<Plan>, Stop>
-    ensures { DefinesAt script.now body cells.now heap.old heap.new (λ here next. look (λ l. cell_value name (property_valued place.object key plain next) (cell_of l cell))) (λ here. definitions_from here place.node place.next place.object) result }
+    ensures defines { DefinesAt script.now body cells.now heap.old heap.new (λ here next. look (λ l. cell_value name (property_valued place.object key plain next) (cell_of l cell))) (λ here. definitions_from here place.node place.next place.object) result }
+    ensures retains { Retains heap.old heap.new }
 {
     match heap.cell(cell) {
         None => Ok(Some(not_initialised(heap, script, body, cells, name, steps)?)),
@@ -440,7 +449,8 @@ fn name_bound<L: Ledger>(
     key: PropKey,
     steps: &mut Steps<L>,
 ) -> Result<Option<Plan>, Stop>
-    ensures { DefinesAt script.now body cells.now heap.old heap.new (λ here next. resolve_bound here name binding (λ r. get_value here r (property_valued place.object key plain next))) (λ here. definitions_from here place.node place.next place.object) result }
+    ensures defines { DefinesAt script.now body cells.now heap.old heap.new (λ here next. resolve_bound here name binding (λ r. get_value here r (property_valued place.object key plain next))) (λ here. definitions_from here place.node place.next place.object) result }
+    ensures retains { Retains heap.old heap.new }
 {
     match binding {
         Binding::Global => Ok(Some(look_up(heap, place, name, key))),
@@ -473,7 +483,8 @@ fn shorthand<L: Ledger>(
     named: &Named,
     steps: &mut Steps<L>,
 ) -> Result<Option<Plan>, Stop>
-    ensures { DefinesAt script.now body cells.now heap.old heap.new (λ here. property_then here place.object (property_of.Shorthand named.now)) (λ here. definitions_from here place.node place.next place.object) result }
+    ensures defines { DefinesAt script.now body cells.now heap.old heap.new (λ here. property_then here place.object (property_of.Shorthand named.now)) (λ here. definitions_from here place.node place.next place.object) result }
+    ensures retains { Retains heap.old heap.new }
 {
     let text = intern(heap, &named.name)?;
     let key = key_of(heap, text);
@@ -531,7 +542,8 @@ fn property_then<L: Ledger>(
     steps: &mut Steps<L>,
 ) -> Result<Option<Plan>, Stop>
     requires { StandsAt script.now place.node place.at place.next property.now }
-    ensures { DefinesAt script.now body cells.now heap.old heap.new (λ here. property_then here place.object property.now) (λ here. definitions_from here place.node place.next place.object) result }
+    ensures defines { DefinesAt script.now body cells.now heap.old heap.new (λ here. property_then here place.object property.now) (λ here. definitions_from here place.node place.next place.object) result }
+    ensures retains { Retains heap.old heap.new }
 {
     match property {
         Property::Value { key, .. } => not_done(property_key(
@@ -552,7 +564,7 @@ fn property_then<L: Ledger>(
 }
 
 /// The property definitions of an object literal from a number on.
-#[tactic(auto, using(object_heap::specs::Stands::goes_none, object_heap::specs::Stands::goes_then, object_heap::specs::Stands::halts_at, crate::proofs::Defining::defined_on, crate::proofs::Defining::defined_plan, crate::proofs::Defining::defined_stops, crate::proofs::Defining::defined_ends))]
+#[tactic(auto, using(object_heap::specs::Stands::goes_none, object_heap::specs::Stands::goes_then, object_heap::specs::Stands::halts_at, object_heap::proofs::Retaining::retains_none, object_heap::proofs::Retaining::retains_then, crate::proofs::Defining::defined_on, crate::proofs::Defining::defined_plan, crate::proofs::Defining::defined_stops, crate::proofs::Defining::defined_ends))]
 pub(crate) fn properties_from<L: Ledger>(
     heap: &mut Heap,
     script: &Checked,
@@ -563,7 +575,8 @@ pub(crate) fn properties_from<L: Ledger>(
     object: ObjectId,
     steps: &mut Steps<L>,
 ) -> Result<Plan, Stop>
-    ensures { PlansAt script.now body cells.now heap.old heap.new (λ here. definitions_from here node first object) result }
+    ensures plans { PlansAt script.now body cells.now heap.old heap.new (λ here. definitions_from here node first object) result }
+    ensures retains { Retains heap.old heap.new }
 {
     let count = property_count(script, node);
     let mut next = first;
@@ -599,7 +612,8 @@ pub(crate) fn property_valued<L: Ledger>(
     value: Value,
     steps: &mut Steps<L>,
 ) -> Result<Plan, Stop>
-    ensures { PlansAt script.now body cells.now heap.old heap.new (λ here. literal_valued here (literal.PropertyValued node next object key made) value) result }
+    ensures plans { PlansAt script.now body cells.now heap.old heap.new (λ here. literal_valued here (literal.PropertyValued node next object key made) value) result }
+    ensures retains { Retains heap.old heap.new }
 {
     define(heap, object, key, made, value, steps)?;
     properties_from(heap, script, body, cells, node, next, object, steps)
@@ -617,7 +631,8 @@ fn proto_valued<L: Ledger>(
     value: Value,
     steps: &mut Steps<L>,
 ) -> Result<Plan, Stop>
-    ensures { PlansAt script.now body cells.now heap.old heap.new (λ here. literal_valued here (literal.ProtoValued node next object) value) result }
+    ensures plans { PlansAt script.now body cells.now heap.old heap.new (λ here. literal_valued here (literal.ProtoValued node next object) value) result }
+    ensures retains { Retains heap.old heap.new }
 {
     let proto = match value {
         Value::Object(proto) => Some(proto),
@@ -641,7 +656,8 @@ pub(crate) fn literal_valued<L: Ledger>(
     value: Value,
     steps: &mut Steps<L>,
 ) -> Result<Plan, Stop>
-    ensures { PlansAt script.now body cells.now heap.old heap.new (λ here. literal_valued here item value) result }
+    ensures plans { PlansAt script.now body cells.now heap.old heap.new (λ here. literal_valued here item value) result }
+    ensures retains { Retains heap.old heap.new }
 {
     match item {
         LiteralItem::PropertyValued {

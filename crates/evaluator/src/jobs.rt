@@ -14,6 +14,7 @@ ghost use Rattle.evaluator.specs.declared.items.Job.TheVariants as job;
 ghost use Rattle.evaluator.specs.declared.items.OperatorItem.TheVariants as waiting;
 ghost use Rattle.evaluator.specs.declared.items.Plan.TheVariants as plan;
 ghost use Rattle.evaluator.specs.Tasks.{access_program, node_of, operator_program};
+ghost use Rattle.object_heap.specs.Retains.{Retains};
 
 use crate::accesses::{access_reference, access_valued, target_reference};
 use crate::assignments::assignment;
@@ -50,7 +51,8 @@ fn comma_list<L: Ledger>(
     steps: &mut Steps<L>,
 ) -> Result<Plan, Stop>
     requires { slice_get script.now.nodes node.0 ≡ Some (node_is.Operator operator.now) }
-    ensures { PlansAt script.now body cells.now heap.old heap.new (λ here. comma_from here (comma_in (Some (node_is.Operator operator.now))) values.Undefined) result }
+    ensures plans { PlansAt script.now body cells.now heap.old heap.new (λ here. comma_from here (comma_in (Some (node_is.Operator operator.now))) values.Undefined) result }
+    ensures retains { Retains heap.old heap.new }
 {
     let before = Value::Undefined;
     comma_from(heap, script, body, cells, node, 0, before, steps)
@@ -66,7 +68,8 @@ fn update_expression<L: Ledger>(
     target: &Target,
     steps: &mut Steps<L>,
 ) -> Result<Plan, Stop>
-    ensures { PlansAt script.now body cells.now heap.old heap.new (λ here. target_reference here target.now (update_reference here increment prefix)) result }
+    ensures plans { PlansAt script.now body cells.now heap.old heap.new (λ here. target_reference here target.now (update_reference here increment prefix)) result }
+    ensures retains { Retains heap.old heap.new }
 {
     let purpose = Purpose::Update { increment, prefix };
     target_reference(heap, script, body, cells, target, purpose, steps)
@@ -101,7 +104,8 @@ fn operator_plan<L: Ledger>(
     steps: &mut Steps<L>,
 ) -> Result<Plan, Stop>
     requires { slice_get script.now.nodes node.0 ≡ Some (node_is.Operator operator.now) }
-    ensures { PlansAt script.now body cells.now heap.old heap.new (λ here. operator_program here node operator.now) result }
+    ensures plans { PlansAt script.now body cells.now heap.old heap.new (λ here. operator_program here node operator.now) result }
+    ensures retains { Retains heap.old heap.new }
 {
     match operator {
         Operator::Comma(_) => comma_list(heap, script, body, cells, node, operator, steps),
@@ -148,7 +152,8 @@ fn access_plan<L: Ledger>(
     access: &Access,
     steps: &mut Steps<L>,
 ) -> Result<Plan, Stop>
-    ensures { PlansAt script.now body cells.now heap.old heap.new (λ here. access_program here node access.now) result }
+    ensures plans { PlansAt script.now body cells.now heap.old heap.new (λ here. access_program here node access.now) result }
+    ensures retains { Retains heap.old heap.new }
 {
     match access {
         Access::Member { .. } | Access::Index { .. } => access_reference(
@@ -184,6 +189,7 @@ fn node_plan<L: Ledger>(
     requires at { slice_get script.now.nodes node.0 ≡ Some found.now }
     ensures plans { PlansOf (context script.now body cells.old) (context script.now body cells.new) heap.old heap.new (λ here. node_of here name node (Some found.now)) result }
     ensures front { OnOk result (take (length cells.old) cells.new ≡ cells.old) }
+    ensures retains { Retains heap.old heap.new }
 {
     match found {
         Node::Statement(statement) => statement_plan(
@@ -208,6 +214,7 @@ fn node_at<L: Ledger>(
 ) -> Result<Plan, Stop>
     ensures plans { PlansOf (context script.now body cells.old) (context script.now body cells.new) heap.old heap.new (λ here. node_of here name node (slice_get here.script.nodes node.0)) result }
     ensures front { OnOk result (take (length cells.old) cells.new ≡ cells.old) }
+    ensures retains { Retains heap.old heap.new }
 {
     if node.0 < script.nodes() {
         let found = script.node(node);
@@ -218,7 +225,7 @@ fn node_at<L: Ledger>(
 }
 
 /// What a job does first. Here is the one place of a node's turn.
-#[tactic(auto, using(object_heap::specs::Stands::goes_none, object_heap::specs::Stands::goes_then, object_heap::specs::Stands::halts_at, crate::proofs::Planned::plans_then))]
+#[tactic(auto, using(object_heap::specs::Stands::goes_none, object_heap::specs::Stands::goes_then, object_heap::specs::Stands::halts_at, object_heap::proofs::Retaining::retains_none, object_heap::proofs::Retaining::retains_then, crate::proofs::Planned::plans_then))]
 pub(crate) fn job_plan<L: Ledger>(
     heap: &mut Heap,
     script: &Checked,
@@ -229,6 +236,7 @@ pub(crate) fn job_plan<L: Ledger>(
 ) -> Result<Plan, Stop>
     ensures plans { PlansOf (context script.now body cells.old) (context script.now body cells.new) heap.old heap.new (λ here. job_program here job) result }
     ensures front { OnOk result (take (length cells.old) cells.new ≡ cells.old) }
+    ensures retains { Retains heap.old heap.new }
 {
     match job {
         Job::Node { name, node } => {
@@ -250,7 +258,8 @@ fn item_valued<L: Ledger>(
     value: Value,
     steps: &mut Steps<L>,
 ) -> Result<Plan, Stop>
-    ensures { PlansAt script.now body cells.now heap.old heap.new (λ here. item_valued here item value) result }
+    ensures plans { PlansAt script.now body cells.now heap.old heap.new (λ here. item_valued here item value) result }
+    ensures retains { Retains heap.old heap.new }
 {
     match item {
         Item::Read(reading) => reading_valued(heap, script, body, cells, reading, value, steps),
@@ -286,6 +295,7 @@ pub(crate) fn item_plan<L: Ledger>(
 ) -> Result<Plan, Stop>
     ensures plans { PlansIn (context script.now body cells.old) (context script.now body cells.new) heap.old heap.new (λ here. item_program here item (ended end)) result }
     ensures front { OnOk result (take (length cells.old) cells.new ≡ cells.old) }
+    ensures retains { Retains heap.old heap.new }
 {
     match item {
         Item::Statement(item) => statement_item_plan(heap, script, body, cells, item, end, steps),

@@ -1,5 +1,5 @@
 //! Evaluation of a script and of the bodies of its functions (ECMA-262, clauses 13 to 16).
-#![tactic(auto, using(object_heap::specs::Stands::goes_none, object_heap::specs::Stands::goes_then, object_heap::specs::Stands::halts_at))]
+#![tactic(auto, using(object_heap::specs::Stands::goes_none, object_heap::specs::Stands::goes_then, object_heap::specs::Stands::halts_at, object_heap::proofs::Retaining::retains_none, object_heap::proofs::Retaining::retains_then))]
 
 mod accesses;
 mod answers;

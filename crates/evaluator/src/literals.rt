@@ -12,6 +12,7 @@ ghost use Rattle.evaluator.specs.Plans.{PlansAt, PlansOf};
 ghost use Rattle.evaluator.specs.declared.items.Ending.TheVariants as ending;
 ghost use Rattle.evaluator.specs.declared.items.Plan.TheVariants as plan;
 ghost use Rattle.evaluator.specs.Values.{or_out, whole_of};
+ghost use Rattle.object_heap.specs.Retains.{Retains};
 
 use crate::accesses::resolve;
 use crate::cells::Cells;
@@ -34,7 +35,8 @@ pub(crate) fn number<L: Ledger>(
     n: i64,
     steps: &mut Steps<L>,
 ) -> Result<Plan, Stop>
-    ensures { PlansAt script.now body cells.now heap.old heap.new (λ here. or_out (whole_of n) (λ m. gives (values.Whole m))) result }
+    ensures plans { PlansAt script.now body cells.now heap.old heap.new (λ here. or_out (whole_of n) (λ m. gives (values.Whole m))) result }
+    ensures retains { Retains heap.old heap.new }
 {
     match whole_of(n) {
         None => out_of_profile(heap, script, body, cells, steps),
@@ -50,7 +52,8 @@ pub(crate) fn text<L: Ledger>(
     units: &Units,
     steps: &mut Steps<L>,
 ) -> Result<Plan, Stop>
-    ensures { PlansAt script.now body cells.now heap.old heap.new (λ here. make_text units.now (λ t. gives (values.Text t))) result }
+    ensures plans { PlansAt script.now body cells.now heap.old heap.new (λ here. make_text units.now (λ t. gives (values.Text t))) result }
+    ensures retains { Retains heap.old heap.new }
 {
     let text = intern(heap, units)?;
     Ok(Plan::Ends(Ending::Gives(Value::Text(text))))
@@ -67,7 +70,8 @@ fn object_literal<L: Ledger>(
     steps: &mut Steps<L>,
 ) -> Result<Plan, Stop>
     requires { literal.0 < length script.now.literals }
-    ensures { PlansOf (context script.now body cells.now) (context script.now body cells.now) heap.old heap.new (λ here. object_literal here node literal) result }
+    ensures plans { PlansOf (context script.now body cells.now) (context script.now body cells.now) heap.old heap.new (λ here. object_literal here node literal) result }
+    ensures retains { Retains heap.old heap.new }
 {
     let facts = *script.literal(literal);
     let places = literal_places(facts.definitions);
@@ -97,7 +101,8 @@ pub(crate) fn primary_plan<L: Ledger>(
 ) -> Result<Plan, Stop>
     requires parts { NamesParts script.now primary.now }
     requires at { slice_get script.now.nodes node.0 ≡ Some (node_of.Primary primary.now) }
-    ensures { PlansOf (context script.now body cells.now) (context script.now body cells.now) heap.old heap.new (λ here. primary_program here name node primary.now) result }
+    ensures plans { PlansOf (context script.now body cells.now) (context script.now body cells.now) heap.old heap.new (λ here. primary_program here name node primary.now) result }
+    ensures retains { Retains heap.old heap.new }
 {
     match primary {
         Primary::This => Ok(Plan::Ends(Ending::Gives(body.this))),

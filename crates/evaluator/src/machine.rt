@@ -19,6 +19,7 @@ ghost use Rattle.evaluator.specs.Plans.{Plans, asked_program, ended, task_of};
 ghost use Rattle.evaluator.specs.Soundness.{KeepsCurrent, KeepsItem, KeepsItems, KeepsRest, StaysSoundNext, StaysSoundTurn};
 ghost use Rattle.evaluator.specs.declared.frames.Current.TheVariants.{At, EndedBy};
 ghost use Rattle.evaluator.specs.declared.items.Job.TheVariants as job;
+ghost use Rattle.object_heap.specs.Retains.{Retains};
 ghost use Rattle.object_heap.specs.Stands.{HeapView, StandsFor};
 ghost use Rattle.object_heap.specs.Turns.{IsTurnOf};
 
@@ -89,6 +90,7 @@ fn advance<L: Ledger>(
     ensures next { (S : Server) (n : ℕ) (w : World) → IsServer S → w.script ≡ script.now → StandsFor heap.old w → IsNext (context script.now body cells.new) S n (length pending.old.items + 2) (unwound (context script.now body cells.old) S n pending.old.items (S n (task_of (context script.now body cells.old) job) w)) heap.old heap.new w pending.new.items result }
     ensures sound { (w : World) → w.script ≡ script.now → StandsFor heap.old w → KeepsCurrent (context script.now body cells.old) w (At job) → KeepsItems (context script.now body cells.old) w pending.old.items → StaysSoundNext (context script.now body cells.new) heap.old heap.new w pending.new.items result }
     ensures stacked { OnOk result (IsStacked 0 pending.new.items (length cells.new)) }
+    ensures retains { Retains heap.old heap.new }
 {
     let before = cells.len();
     match job_plan(heap, script, body, cells, job, steps) {
@@ -113,6 +115,7 @@ fn wake<L: Ledger>(
     ensures next { (S : Server) (n : ℕ) (w : World) → w.script ≡ script.now → StandsFor heap.old w → IsNext (context script.now body cells.new) S n (length pending.old.items + 2) (unwound (context script.now body cells.old) S n pending.old.items (pending_rest (context script.now body cells.old) S n entry (ended end) w)) heap.old heap.new w pending.new.items result }
     ensures sound { (w : World) → StandsFor heap.old w → KeepsCurrent (context script.now body cells.old) w (EndedBy end) → KeepsItem (context script.now body cells.old) w entry → KeepsItems (context script.now body cells.old) w pending.old.items → StaysSoundNext (context script.now body cells.new) heap.old heap.new w pending.new.items result }
     ensures stacked { OnOk result (IsStacked 0 pending.new.items (length cells.new)) }
+    ensures retains { Retains heap.old heap.new }
 {
     let Pending { item, depth } = entry;
     cells.truncate(depth);
@@ -136,6 +139,7 @@ fn step<L: Ledger>(
     ensures next { (S : Server) (n : ℕ) (w : World) → IsServer S → w.script ≡ script.now → StandsFor heap.old w → IsNext (context script.now body cells.new) S n (height pending.old.items current) (meaning (context script.now body cells.old) S n pending.old.items current w) heap.old heap.new w pending.new.items result }
     ensures sound { (w : World) → w.script ≡ script.now → StandsFor heap.old w → KeepsCurrent (context script.now body cells.old) w current → KeepsItems (context script.now body cells.old) w pending.old.items → StaysSoundNext (context script.now body cells.new) heap.old heap.new w pending.new.items result }
     ensures stacked { OnOk result (IsStacked 0 pending.new.items (length cells.new)) }
+    ensures retains { Retains heap.old heap.new }
 {
     match current {
         Current::At(job) => advance(heap, script, body, cells, pending, job, steps),
@@ -173,6 +177,7 @@ fn go<L: Ledger>(
     requires { IsStacked 0 pending.items (length cells) }
     ensures turn { (S : Server) (n : ℕ) (w : World) → IsServer S → w.script ≡ script.now → StandsFor heap.old w → IsTurnOf (eval_rest script.now) heap.old heap.new w S n (meaning (context script.now body cells) S n pending.items current w) result }
     ensures sound { (w : World) → w.script ≡ script.now → StandsFor heap.old w → KeepsCurrent (context script.now body cells) w current → KeepsItems (context script.now body cells) w pending.items → StaysSoundTurn script.now heap.old heap.new w result }
+    ensures retains { Retains heap.old heap.new }
 {
     let mut left = Countdown::new(
         heap.turns_ref().left(),
@@ -199,7 +204,8 @@ fn go<L: Ledger>(
 
 /// The declared functions of the script, up to the first that is made: each takes a turn, and is not written yet.
 fn declare_functions(heap: &mut Heap, script: &Checked) -> Result<Option<Completion>, Stop>
-    ensures { (here : Context) (w : World) → StandsFor heap.old w → Declares here script.now.script.declared heap.old heap.new w result }
+    ensures declares { (here : Context) (w : World) → StandsFor heap.old w → Declares here script.now.script.declared heap.old heap.new w result }
+    ensures retains { Retains heap.old heap.new }
 {
     let declared = &script.script().declared;
     for i in 0..declared.len() {
@@ -234,6 +240,7 @@ fn run_statements<L: Ledger>(
 ) -> Result<Turn<EvalFrame>, Stop>
     ensures turn { (S : Server) (n : ℕ) (w : World) → IsServer S → w.script ≡ script.now → StandsFor heap.old w → IsTurnOf (eval_rest script.now) heap.old heap.new w S n (meaning (context script.now (script_body script.now) []) S n [] (At (job.Statements part.Script 0)) w) result }
     ensures sound { (w : World) → w.script ≡ script.now → StandsFor heap.old w → IsSound w → StaysSoundTurn script.now heap.old heap.new w result }
+    ensures retains { Retains heap.old heap.new }
 {
     let body = script_running(script);
     let cells = Cells::new(heap.alloc());
@@ -253,6 +260,7 @@ pub fn start_script<L: Ledger>(
 ) -> Result<Turn<EvalFrame>, Stop>
     ensures turn { (S : Server) (n : ℕ) (w : World) → IsServer S → w.script ≡ script.now → StandsFor heap.old w → IsTurnOf (eval_rest script.now) heap.old heap.new w S n (run_of S (script_program script.now) n w) result }
     ensures sound { (w : World) → w.script ≡ script.now → StandsFor heap.old w → IsSound w → StaysSoundTurn script.now heap.old heap.new w result }
+    ensures retains { Retains heap.old heap.new }
 {
     let mut top = Cells::new(heap.alloc());
     make_cells(heap, &mut top, script.top_names())?;
@@ -276,6 +284,7 @@ pub fn start_body<L: Ledger>(
 ) -> Result<Turn<EvalFrame>, Stop>
     ensures turn { (S : Server) (n : ℕ) (w : World) → IsServer S → w.script ≡ script.now → StandsFor heap.old w → IsTurnOf (eval_rest script.now) heap.old heap.new w S n (run_of S (call_program script.now function callee this arguments) n w) result }
     ensures sound { (w : World) → w.script ≡ script.now → StandsFor heap.old w → IsSound w → function.0 < length script.now.functions → IsObject w.lists callee → IsKnown w.lists this → AreKnown w.lists arguments → StaysSoundTurn script.now heap.old heap.new w result }
+    ensures retains { Retains heap.old heap.new }
 {
     Ok(Turn::Done(Completion::Throw(Value::Undefined)))
 }
@@ -292,6 +301,7 @@ fn continue_with<L: Ledger>(
     requires { IsStacked 0 pending.items (length cells) }
     ensures turn { (S : Server) (n a : ℕ) (o : Outcome) (old : HeapView) (w : World) → IsServer S → w.script ≡ script.now → IsNext (context script.now body cells) S n a o old heap.old w pending.items (Ok next) → IsTurnOf (eval_rest script.now) old heap.new w S n o result }
     ensures sound { (old : HeapView) (w : World) → w.script ≡ script.now → StaysSoundNext (context script.now body cells) old heap.old w pending.items (Ok next) → StaysSoundTurn script.now old heap.new w result }
+    ensures retains { Retains heap.old heap.new }
 {
     match next {
         Next::GoOn(current) => go(heap, script, body, cells, pending, current, steps),
@@ -314,6 +324,7 @@ fn take_answer<L: Ledger>(
     requires { IsStacked 0 pending.items (length cells) }
     ensures turn { (S : Server) (n : ℕ) (w : World) → IsServer S → w.script ≡ script.now → StandsFor heap.old w → IsTurnOf (eval_rest script.now) heap.old heap.new w S n (unwound (context script.now body cells) S n pending.items (run_of S (asked_program (context script.now body cells) asked (answered answer)) n w)) result }
     ensures sound { (w : World) → w.script ≡ script.now → StandsFor heap.old w → IsKept IsKnownCompletion (asked_program (context script.now body cells) asked (answered answer)) w → KeepsItems (context script.now body cells) w pending.items → StaysSoundTurn script.now heap.old heap.new w result }
+    ensures retains { Retains heap.old heap.new }
 {
     let depth = cells.len();
     match asked_plan(heap, script, body, &cells, asked, answer, steps) {
@@ -337,6 +348,7 @@ pub fn resume<L: Ledger>(
 ) -> Result<Turn<EvalFrame>, Stop>
     ensures turn { (S : Server) (n : ℕ) (w : World) → IsServer S → w.script ≡ script.now → StandsFor heap.old w → IsTurnOf (eval_rest script.now) heap.old heap.new w S n (eval_rest script.now frame S n (answered answer) w) result }
     ensures sound { (w : World) → w.script ≡ script.now → StandsFor heap.old w → KeepsRest script.now w frame (answered answer) → StaysSoundTurn script.now heap.old heap.new w result }
+    ensures retains { Retains heap.old heap.new }
 {
     let EvalFrame {
         body,

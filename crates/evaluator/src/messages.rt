@@ -4,6 +4,7 @@ ghost use Rattle.std.specs.Prelude.{◌≤◌, length};
 ghost use Rattle.es_model.specs.programs.Errors.{not_a_constructor, throw_error};
 ghost use Rattle.evaluator.specs.Errors.{is_constant, not_an_object, not_defined, not_initialised, out_of_profile, refused, text_too_long, throw_joined, throw_named};
 ghost use Rattle.evaluator.specs.Plans.{PlansAt};
+ghost use Rattle.object_heap.specs.Retains.{Retains};
 
 use crate::cells::Cells;
 use crate::items::{Ending, Plan};
@@ -23,7 +24,8 @@ fn throw_text<L: Ledger>(
     steps: &mut Steps<L>,
 ) -> Result<Plan, Stop>
     requires { length message.now ≤ 100 }
-    ensures { PlansAt script.now body cells.now heap.old heap.new (λ here. throw_error kind message.now) result }
+    ensures plans { PlansAt script.now body cells.now heap.old heap.new (λ here. throw_error kind message.now) result }
+    ensures retains { Retains heap.old heap.new }
 {
     let units = units_of(heap.alloc(), message)?;
     let text = heap.intern(units)?;
@@ -32,7 +34,7 @@ fn throw_text<L: Ledger>(
 }
 
 /// An error whose message is one text after another.
-#[tactic(auto, using(object_heap::specs::Stands::goes_none, object_heap::specs::Stands::goes_then, object_heap::specs::Stands::halts_at, crate::proofs::Planned::plans_then))]
+#[tactic(auto, using(object_heap::specs::Stands::goes_none, object_heap::specs::Stands::goes_then, object_heap::specs::Stands::halts_at, object_heap::proofs::Retaining::retains_none, object_heap::proofs::Retaining::retains_then, crate::proofs::Planned::plans_then))]
 fn throw_joined<L: Ledger>(
     heap: &mut Heap,
     script: &Checked,
@@ -43,7 +45,8 @@ fn throw_joined<L: Ledger>(
     second: TextId,
     steps: &mut Steps<L>,
 ) -> Result<Plan, Stop>
-    ensures { PlansAt script.now body cells.now heap.old heap.new (λ here. throw_joined kind first second) result }
+    ensures plans { PlansAt script.now body cells.now heap.old heap.new (λ here. throw_joined kind first second) result }
+    ensures retains { Retains heap.old heap.new }
 {
     match join(heap, first, second)? {
         None => text_too_long(heap, script, body, cells, steps),
@@ -55,7 +58,7 @@ fn throw_joined<L: Ledger>(
 }
 
 /// An error whose message is a name and an ending.
-#[tactic(auto, using(object_heap::specs::Stands::goes_none, object_heap::specs::Stands::goes_then, object_heap::specs::Stands::halts_at, crate::proofs::Planned::plans_then))]
+#[tactic(auto, using(object_heap::specs::Stands::goes_none, object_heap::specs::Stands::goes_then, object_heap::specs::Stands::halts_at, object_heap::proofs::Retaining::retains_none, object_heap::proofs::Retaining::retains_then, crate::proofs::Planned::plans_then))]
 fn throw_name<L: Ledger>(
     heap: &mut Heap,
     script: &Checked,
@@ -67,7 +70,8 @@ fn throw_name<L: Ledger>(
     steps: &mut Steps<L>,
 ) -> Result<Plan, Stop>
     requires { length ending.now ≤ 100 }
-    ensures { PlansAt script.now body cells.now heap.old heap.new (λ here. throw_named kind ending.now name) result }
+    ensures plans { PlansAt script.now body cells.now heap.old heap.new (λ here. throw_named kind ending.now name) result }
+    ensures retains { Retains heap.old heap.new }
 {
     let units = units_of(heap.alloc(), ending)?;
     let tail = heap.intern(units)?;
@@ -81,7 +85,8 @@ pub(crate) fn out_of_profile<L: Ledger>(
     cells: &Cells,
     steps: &mut Steps<L>,
 ) -> Result<Plan, Stop>
-    ensures { PlansAt script.now body cells.now heap.old heap.new (λ here. out_of_profile) result }
+    ensures plans { PlansAt script.now body cells.now heap.old heap.new (λ here. out_of_profile) result }
+    ensures retains { Retains heap.old heap.new }
 {
     throw_text(
         heap,
@@ -101,7 +106,8 @@ pub(crate) fn text_too_long<L: Ledger>(
     cells: &Cells,
     steps: &mut Steps<L>,
 ) -> Result<Plan, Stop>
-    ensures { PlansAt script.now body cells.now heap.old heap.new (λ here. text_too_long) result }
+    ensures plans { PlansAt script.now body cells.now heap.old heap.new (λ here. text_too_long) result }
+    ensures retains { Retains heap.old heap.new }
 {
     throw_text(
         heap,
@@ -121,7 +127,8 @@ pub(crate) fn not_an_object<L: Ledger>(
     cells: &Cells,
     steps: &mut Steps<L>,
 ) -> Result<Plan, Stop>
-    ensures { PlansAt script.now body cells.now heap.old heap.new (λ here. not_an_object) result }
+    ensures plans { PlansAt script.now body cells.now heap.old heap.new (λ here. not_an_object) result }
+    ensures retains { Retains heap.old heap.new }
 {
     throw_text(
         heap,
@@ -141,7 +148,8 @@ pub(crate) fn refused<L: Ledger>(
     cells: &Cells,
     steps: &mut Steps<L>,
 ) -> Result<Plan, Stop>
-    ensures { PlansAt script.now body cells.now heap.old heap.new (λ here. refused) result }
+    ensures plans { PlansAt script.now body cells.now heap.old heap.new (λ here. refused) result }
+    ensures retains { Retains heap.old heap.new }
 {
     throw_text(
         heap,
@@ -161,7 +169,8 @@ pub(crate) fn not_a_constructor<L: Ledger>(
     cells: &Cells,
     steps: &mut Steps<L>,
 ) -> Result<Plan, Stop>
-    ensures { PlansAt script.now body cells.now heap.old heap.new (λ here. not_a_constructor) result }
+    ensures plans { PlansAt script.now body cells.now heap.old heap.new (λ here. not_a_constructor) result }
+    ensures retains { Retains heap.old heap.new }
 {
     throw_text(
         heap,
@@ -182,7 +191,8 @@ pub(crate) fn not_defined<L: Ledger>(
     name: TextId,
     steps: &mut Steps<L>,
 ) -> Result<Plan, Stop>
-    ensures { PlansAt script.now body cells.now heap.old heap.new (λ here. not_defined name) result }
+    ensures plans { PlansAt script.now body cells.now heap.old heap.new (λ here. not_defined name) result }
+    ensures retains { Retains heap.old heap.new }
 {
     throw_name(
         heap,
@@ -204,7 +214,8 @@ pub(crate) fn not_initialised<L: Ledger>(
     name: TextId,
     steps: &mut Steps<L>,
 ) -> Result<Plan, Stop>
-    ensures { PlansAt script.now body cells.now heap.old heap.new (λ here. not_initialised name) result }
+    ensures plans { PlansAt script.now body cells.now heap.old heap.new (λ here. not_initialised name) result }
+    ensures retains { Retains heap.old heap.new }
 {
     throw_name(
         heap,
@@ -226,7 +237,8 @@ pub(crate) fn is_constant<L: Ledger>(
     name: TextId,
     steps: &mut Steps<L>,
 ) -> Result<Plan, Stop>
-    ensures { PlansAt script.now body cells.now heap.old heap.new (λ here. is_constant name) result }
+    ensures plans { PlansAt script.now body cells.now heap.old heap.new (λ here. is_constant name) result }
+    ensures retains { Retains heap.old heap.new }
 {
     throw_name(
         heap,

@@ -8,6 +8,7 @@ ghost use Rattle.es_model.specs.World.{World, description, number_of};
 ghost use Rattle.evaluator.specs.Literals.{bracketed, has_no_name, is_anonymous, name_units};
 ghost use Rattle.evaluator.specs.Lists.{Appends};
 ghost use Rattle.evaluator.specs.Plans.{named_world};
+ghost use Rattle.object_heap.specs.Retains.{Retains};
 ghost use Rattle.object_heap.specs.Stands.{Goes, StandsFor};
 
 use crate::texts::units_of;
@@ -109,6 +110,7 @@ pub(crate) fn name_of_key(
     ensures fits { IfOk result (λ text. (w : World) → StandsFor heap.old w → nat_le (length (prefix.now ++ name_units w.lists key)) most_units ≡ is_some text) }
     ensures number { IfOk result (λ text. IfSome text (λ id. (w : World) → StandsFor heap.old w → id ≡ number_of w.lists (prefix.now ++ name_units w.lists key))) }
     ensures goes { IfOk result (λ text. (w : World) → StandsFor heap.old w → Goes heap.old heap.new w (named_world w prefix.now key text)) }
+    ensures retains { Retains heap.old heap.new }
 {
     let mut units = units_of(heap.alloc(), prefix)?;
     if append_key(heap, &mut units, key)? {

@@ -8,6 +8,7 @@ ghost use Rattle.evaluator.specs.Plans.{PlansAt, operator_valued};
 ghost use Rattle.evaluator.specs.declared.items.Item.TheVariants as item_of;
 ghost use Rattle.evaluator.specs.declared.items.Job.TheVariants as job;
 ghost use Rattle.evaluator.specs.declared.items.Plan.TheVariants as plan;
+ghost use Rattle.object_heap.specs.Retains.{Retains};
 
 use crate::accesses::{access_target, resolve};
 use crate::arithmetic::apply;
@@ -43,7 +44,8 @@ pub(crate) fn typeof_value<L: Ledger>(
     value: Value,
     steps: &mut Steps<L>,
 ) -> Result<Plan, Stop>
-    ensures { PlansAt script.now body cells.now heap.old heap.new (λ here. typeof_value value) result }
+    ensures plans { PlansAt script.now body cells.now heap.old heap.new (λ here. typeof_value value) result }
+    ensures retains { Retains heap.old heap.new }
 {
     let text = type_text(heap, value)?;
     Ok(Plan::Ends(Ending::Gives(Value::Text(text))))
@@ -57,7 +59,8 @@ pub(crate) fn typeof_reference<L: Ledger>(
     reference: Reference,
     steps: &mut Steps<L>,
 ) -> Result<Plan, Stop>
-    ensures { PlansAt script.now body cells.now heap.old heap.new (λ here. typeof_reference here reference) result }
+    ensures plans { PlansAt script.now body cells.now heap.old heap.new (λ here. typeof_reference here reference) result }
+    ensures retains { Retains heap.old heap.new }
 {
     match reference {
         Reference::Global { present, .. } => {
@@ -82,7 +85,7 @@ pub(crate) fn typeof_reference<L: Ledger>(
     }
 }
 
-#[tactic(auto, using(object_heap::specs::Stands::goes_none, object_heap::specs::Stands::goes_then, object_heap::specs::Stands::halts_at, crate::proofs::Planned::plans_then))]
+#[tactic(auto, using(object_heap::specs::Stands::goes_none, object_heap::specs::Stands::goes_then, object_heap::specs::Stands::halts_at, object_heap::proofs::Retaining::retains_none, object_heap::proofs::Retaining::retains_then, crate::proofs::Planned::plans_then))]
 fn typeof_name<L: Ledger>(
     heap: &mut Heap,
     script: &Checked,
@@ -92,7 +95,8 @@ fn typeof_name<L: Ledger>(
     primary: &Primary,
     steps: &mut Steps<L>,
 ) -> Result<Plan, Stop>
-    ensures { PlansAt script.now body cells.now heap.old heap.new (λ here. typeof_at here operand (Some (node_of.Primary primary.now))) result }
+    ensures plans { PlansAt script.now body cells.now heap.old heap.new (λ here. typeof_at here operand (Some (node_of.Primary primary.now))) result }
+    ensures retains { Retains heap.old heap.new }
 {
     match primary {
         Primary::Name(named) => {
@@ -126,7 +130,8 @@ fn typeof_node<L: Ledger>(
     node: &Node,
     steps: &mut Steps<L>,
 ) -> Result<Plan, Stop>
-    ensures { PlansAt script.now body cells.now heap.old heap.new (λ here. typeof_at here operand (Some node.now)) result }
+    ensures plans { PlansAt script.now body cells.now heap.old heap.new (λ here. typeof_at here operand (Some node.now)) result }
+    ensures retains { Retains heap.old heap.new }
 {
     match node {
         Node::Primary(primary) => typeof_name(heap, script, body, cells, operand, primary, steps),
@@ -149,7 +154,8 @@ fn delete_access<L: Ledger>(
     access: &Access,
     steps: &mut Steps<L>,
 ) -> Result<Plan, Stop>
-    ensures { PlansAt script.now body cells.now heap.old heap.new (λ here. delete_at here operand (Some (node_of.Access access.now))) result }
+    ensures plans { PlansAt script.now body cells.now heap.old heap.new (λ here. delete_at here operand (Some (node_of.Access access.now))) result }
+    ensures retains { Retains heap.old heap.new }
 {
     match access {
         Access::Member { .. } | Access::Index { .. } => access_target(
@@ -177,7 +183,8 @@ fn delete_node<L: Ledger>(
     node: &Node,
     steps: &mut Steps<L>,
 ) -> Result<Plan, Stop>
-    ensures { PlansAt script.now body cells.now heap.old heap.new (λ here. delete_at here operand (Some node.now)) result }
+    ensures plans { PlansAt script.now body cells.now heap.old heap.new (λ here. delete_at here operand (Some node.now)) result }
+    ensures retains { Retains heap.old heap.new }
 {
     match node {
         Node::Access(access) => delete_access(heap, script, body, cells, operand, access, steps),
@@ -195,7 +202,8 @@ fn delete<L: Ledger>(
     operand: NodeId,
     steps: &mut Steps<L>,
 ) -> Result<Plan, Stop>
-    ensures { PlansAt script.now body cells.now heap.old heap.new (λ here. unary_expression here unary.Delete operand) result }
+    ensures plans { PlansAt script.now body cells.now heap.old heap.new (λ here. unary_expression here unary.Delete operand) result }
+    ensures retains { Retains heap.old heap.new }
 {
     match node_at(script, operand) {
         None => Ok(wait_for(operand, OperatorItem::DeleteValued)),
@@ -211,7 +219,8 @@ fn type_of<L: Ledger>(
     operand: NodeId,
     steps: &mut Steps<L>,
 ) -> Result<Plan, Stop>
-    ensures { PlansAt script.now body cells.now heap.old heap.new (λ here. unary_expression here unary.Typeof operand) result }
+    ensures plans { PlansAt script.now body cells.now heap.old heap.new (λ here. unary_expression here unary.Typeof operand) result }
+    ensures retains { Retains heap.old heap.new }
 {
     match node_at(script, operand) {
         None => Ok(Plan::Wait(
@@ -235,7 +244,8 @@ pub(crate) fn unary_expression<L: Ledger>(
     operand: NodeId,
     steps: &mut Steps<L>,
 ) -> Result<Plan, Stop>
-    ensures { PlansAt script.now body cells.now heap.old heap.new (λ here. unary_expression here operator operand) result }
+    ensures plans { PlansAt script.now body cells.now heap.old heap.new (λ here. unary_expression here operator operand) result }
+    ensures retains { Retains heap.old heap.new }
 {
     match operator {
         UnaryOperator::Delete => delete(heap, script, body, cells, operand, steps),
@@ -256,7 +266,8 @@ fn is_in<L: Ledger>(
     right: Value,
     steps: &mut Steps<L>,
 ) -> Result<Plan, Stop>
-    ensures { PlansAt script.now body cells.now heap.old heap.new (λ here. is_in left right) result }
+    ensures plans { PlansAt script.now body cells.now heap.old heap.new (λ here. is_in left right) result }
+    ensures retains { Retains heap.old heap.new }
 {
     match right {
         Value::Object(object) => {
@@ -292,7 +303,8 @@ fn compare<L: Ledger>(
     b: Value,
     steps: &mut Steps<L>,
 ) -> Result<Plan, Stop>
-    ensures { PlansAt script.now body cells.now heap.old heap.new (λ here. compare here operator a b) result }
+    ensures plans { PlansAt script.now body cells.now heap.old heap.new (λ here. compare here operator a b) result }
+    ensures retains { Retains heap.old heap.new }
 {
     let given = Asked::Flag(FlagAsked::FlagGiven);
     let denied = Asked::Flag(FlagAsked::FlagDenied);
@@ -398,7 +410,8 @@ fn short_value<L: Ledger>(
     value: Value,
     steps: &mut Steps<L>,
 ) -> Result<Plan, Stop>
-    ensures { PlansAt script.now body cells.now heap.old heap.new (λ here. short_value here operator right value) result }
+    ensures plans { PlansAt script.now body cells.now heap.old heap.new (λ here. short_value here operator right value) result }
+    ensures retains { Retains heap.old heap.new }
 {
     if goes_right(heap, operator, value) {
         Ok(Plan::Last(Job::Node {
@@ -420,7 +433,8 @@ fn test_value<L: Ledger>(
     value: Value,
     steps: &mut Steps<L>,
 ) -> Result<Plan, Stop>
-    ensures { PlansAt script.now body cells.now heap.old heap.new (λ here. test_value here then otherwise value) result }
+    ensures plans { PlansAt script.now body cells.now heap.old heap.new (λ here. test_value here then otherwise value) result }
+    ensures retains { Retains heap.old heap.new }
 {
     let node = if heap.is_truth(value) {
         then
@@ -441,7 +455,8 @@ pub(crate) fn comma_from<L: Ledger>(
     value: Value,
     steps: &mut Steps<L>,
 ) -> Result<Plan, Stop>
-    ensures { PlansAt script.now body cells.now heap.old heap.new (λ here. comma_from here (drop next (comma_at here node)) value) result }
+    ensures plans { PlansAt script.now body cells.now heap.old heap.new (λ here. comma_from here (drop next (comma_at here node)) value) result }
+    ensures retains { Retains heap.old heap.new }
 {
     match comma_at(script, node, next) {
         None => Ok(Plan::Ends(Ending::Gives(value))),
@@ -465,7 +480,8 @@ pub(crate) fn operator_valued<L: Ledger>(
     value: Value,
     steps: &mut Steps<L>,
 ) -> Result<Plan, Stop>
-    ensures { PlansAt script.now body cells.now heap.old heap.new (λ here. operator_valued here item value) result }
+    ensures plans { PlansAt script.now body cells.now heap.old heap.new (λ here. operator_valued here item value) result }
+    ensures retains { Retains heap.old heap.new }
 {
     match item {
         OperatorItem::DeleteValued => Ok(Plan::Ends(Ending::Gives(Value::Bool(true)))),

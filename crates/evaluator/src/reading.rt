@@ -8,6 +8,7 @@ ghost use Rattle.evaluator.specs.declared.items.OperatorItem.TheVariants as oper
 ghost use Rattle.evaluator.specs.declared.items.Plan.TheVariants as plan;
 ghost use Rattle.evaluator.specs.Plans.{PlansAt, reading_program, reading_valued};
 ghost use Rattle.evaluator.specs.References.{get_above, get_in_text, get_named, get_of, get_unit, get_value, got_again};
+ghost use Rattle.object_heap.specs.Retains.{Retains};
 
 use crate::calls::arguments_from;
 use crate::cells::Cells;
@@ -51,7 +52,8 @@ pub(crate) fn reading_valued<L: Ledger>(
     value: Value,
     steps: &mut Steps<L>,
 ) -> Result<Plan, Stop>
-    ensures { PlansAt script.now body cells.now heap.old heap.new (λ here. reading_valued here reading value) result }
+    ensures plans { PlansAt script.now body cells.now heap.old heap.new (λ here. reading_valued here reading value) result }
+    ensures retains { Retains heap.old heap.new }
 {
     match reading {
         Reading::Give => Ok(Plan::Ends(Ending::Gives(value))),
@@ -108,7 +110,8 @@ fn get_above<L: Ledger>(
     reading: Reading,
     steps: &mut Steps<L>,
 ) -> Result<Plan, Stop>
-    ensures { PlansAt script.now body cells.now heap.old heap.new (λ here. get_above class base key site (reading_program here reading)) result }
+    ensures plans { PlansAt script.now body cells.now heap.old heap.new (λ here. get_above class base key site (reading_program here reading)) result }
+    ensures retains { Retains heap.old heap.new }
 {
     heap.charge(1)?;
     let request = Request::Read {
@@ -120,7 +123,7 @@ fn get_above<L: Ledger>(
     Ok(Plan::Ask(request, Asked::Value(ValueAsked::Read(reading))))
 }
 
-#[tactic(auto, using(object_heap::specs::Stands::goes_none, object_heap::specs::Stands::goes_then, object_heap::specs::Stands::halts_at, crate::proofs::Planned::plans_then))]
+#[tactic(auto, using(object_heap::specs::Stands::goes_none, object_heap::specs::Stands::goes_then, object_heap::specs::Stands::halts_at, object_heap::proofs::Retaining::retains_none, object_heap::proofs::Retaining::retains_then, crate::proofs::Planned::plans_then))]
 fn get_unit<L: Ledger>(
     heap: &mut Heap,
     script: &Checked,
@@ -133,7 +136,8 @@ fn get_unit<L: Ledger>(
     unit: Option<u16>,
     steps: &mut Steps<L>,
 ) -> Result<Plan, Stop>
-    ensures { PlansAt script.now body cells.now heap.old heap.new (λ here. get_unit text (Index index) site (reading_program here reading) unit) result }
+    ensures plans { PlansAt script.now body cells.now heap.old heap.new (λ here. get_unit text (Index index) site (reading_program here reading) unit) result }
+    ensures retains { Retains heap.old heap.new }
 {
     match unit {
         None => get_above(
@@ -166,7 +170,8 @@ fn get_named<L: Ledger>(
     reading: Reading,
     steps: &mut Steps<L>,
 ) -> Result<Plan, Stop>
-    ensures { PlansAt script.now body cells.now heap.old heap.new (λ here. get_named text name site (reading_program here reading)) result }
+    ensures plans { PlansAt script.now body cells.now heap.old heap.new (λ here. get_named text name site (reading_program here reading)) result }
+    ensures retains { Retains heap.old heap.new }
 {
     if name == StartText::Length.number() {
         let length = text_len(heap, text) as i64;
@@ -207,7 +212,8 @@ fn get_in_text<L: Ledger>(
     reading: Reading,
     steps: &mut Steps<L>,
 ) -> Result<Plan, Stop>
-    ensures { PlansAt script.now body cells.now heap.old heap.new (λ here. get_in_text text key site (reading_program here reading)) result }
+    ensures plans { PlansAt script.now body cells.now heap.old heap.new (λ here. get_in_text text key site (reading_program here reading)) result }
+    ensures retains { Retains heap.old heap.new }
 {
     match key {
         PropKey::Index(index) => {
@@ -245,7 +251,8 @@ fn get_of<L: Ledger>(
     reading: Reading,
     steps: &mut Steps<L>,
 ) -> Result<Plan, Stop>
-    ensures { PlansAt script.now body cells.now heap.old heap.new (λ here. get_of base key site (reading_program here reading)) result }
+    ensures plans { PlansAt script.now body cells.now heap.old heap.new (λ here. get_of base key site (reading_program here reading)) result }
+    ensures retains { Retains heap.old heap.new }
 {
     match base {
         Value::Undefined | Value::Null => not_an_object(heap, script, body, cells, steps),
@@ -312,7 +319,8 @@ pub(crate) fn got_again<L: Ledger>(
     present: bool,
     steps: &mut Steps<L>,
 ) -> Result<Plan, Stop>
-    ensures { PlansAt script.now body cells.now heap.old heap.new (λ here. got_again here name key (reading_program here reading) present) result }
+    ensures plans { PlansAt script.now body cells.now heap.old heap.new (λ here. got_again here name key (reading_program here reading) present) result }
+    ensures retains { Retains heap.old heap.new }
 {
     if present {
         let global = Intrinsic::Global.object();
@@ -340,7 +348,8 @@ pub(crate) fn get_value<L: Ledger>(
     reading: Reading,
     steps: &mut Steps<L>,
 ) -> Result<Plan, Stop>
-    ensures { PlansAt script.now body cells.now heap.old heap.new (λ here. get_value here reference (reading_program here reading)) result }
+    ensures plans { PlansAt script.now body cells.now heap.old heap.new (λ here. get_value here reference (reading_program here reading)) result }
+    ensures retains { Retains heap.old heap.new }
 {
     match reference {
         Reference::Cell { name, cell, .. } => match heap.cell(cell) {

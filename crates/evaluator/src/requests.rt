@@ -6,6 +6,7 @@ ghost use Rattle.evaluator.specs.Plans.{PlansAt, asked_program};
 ghost use Rattle.std.specs.Prelude.{◌∷◌, []};
 ghost use Rattle.es_model.specs.Program.{ask};
 ghost use Rattle.es_model.specs.declared.requests.Request.TheVariants.{Work};
+ghost use Rattle.object_heap.specs.Retains.{Retains};
 
 use crate::cells::Cells;
 use crate::items::{Asked, Plan};
@@ -25,7 +26,8 @@ pub(crate) fn convert<L: Ledger>(
     next: Asked,
     steps: &mut Steps<L>,
 ) -> Result<Plan, Stop>
-    ensures { PlansAt script.now body cells.now heap.old heap.new (λ here. convert operation value (asked_program here next)) result }
+    ensures plans { PlansAt script.now body cells.now heap.old heap.new (λ here. convert operation value (asked_program here next)) result }
+    ensures retains { Retains heap.old heap.new }
 {
     let mut operands = Values::new(heap.alloc());
     operands.push(value)?;
@@ -48,7 +50,8 @@ pub(crate) fn ask_of_two<L: Ledger>(
     next: Asked,
     steps: &mut Steps<L>,
 ) -> Result<Plan, Stop>
-    ensures { PlansAt script.now body cells.now heap.old heap.new (λ here. ask (Work operation (a ∷ b ∷ [])) (asked_program here next)) result }
+    ensures plans { PlansAt script.now body cells.now heap.old heap.new (λ here. ask (Work operation (a ∷ b ∷ [])) (asked_program here next)) result }
+    ensures retains { Retains heap.old heap.new }
 {
     let mut operands = Values::new(heap.alloc());
     operands.push(a)?;
@@ -72,7 +75,8 @@ pub(crate) fn is_less<L: Ledger>(
     next: Asked,
     steps: &mut Steps<L>,
 ) -> Result<Plan, Stop>
-    ensures { PlansAt script.now body cells.now heap.old heap.new (λ here. is_less a b left_first (asked_program here next)) result }
+    ensures plans { PlansAt script.now body cells.now heap.old heap.new (λ here. is_less a b left_first (asked_program here next)) result }
+    ensures retains { Retains heap.old heap.new }
 {
     let mut operands = Values::new(heap.alloc());
     operands.push(a)?;

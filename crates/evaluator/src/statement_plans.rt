@@ -10,6 +10,7 @@ ghost use Rattle.evaluator.specs.declared.items.Item.TheVariants as item_of;
 ghost use Rattle.evaluator.specs.declared.items.Job.TheVariants as job;
 ghost use Rattle.evaluator.specs.declared.items.Plan.TheVariants as plan;
 ghost use Rattle.evaluator.specs.declared.items.StatementItem.TheVariants as statement_of;
+ghost use Rattle.object_heap.specs.Retains.{Retains};
 
 use crate::cells::Cells;
 use crate::declarations::{declare_from, declared_valued};
@@ -33,7 +34,8 @@ fn return_statement<L: Ledger>(
     value: Option<NodeId>,
     steps: &mut Steps<L>,
 ) -> Result<Plan, Stop>
-    ensures { PlansAt script.now body cells.now heap.old heap.new (λ here. return_statement here value) result }
+    ensures plans { PlansAt script.now body cells.now heap.old heap.new (λ here. return_statement here value) result }
+    ensures retains { Retains heap.old heap.new }
 {
     match value {
         None => Ok(Plan::Ends(Ending::Returns(Value::Undefined))),
@@ -52,7 +54,8 @@ fn declaration<L: Ledger>(
     steps: &mut Steps<L>,
 ) -> Result<Plan, Stop>
     requires { slice_get script.now.nodes node.0 ≡ Some (node_of.Statement statement.now) }
-    ensures { PlansAt script.now body cells.now heap.old heap.new (λ here. declare_all here (declared_in (Some (node_of.Statement statement.now)))) result }
+    ensures plans { PlansAt script.now body cells.now heap.old heap.new (λ here. declare_all here (declared_in (Some (node_of.Statement statement.now)))) result }
+    ensures retains { Retains heap.old heap.new }
 {
     declare_from(heap, script, body, cells, node, 0, steps)
 }
@@ -68,6 +71,7 @@ fn try_statement<L: Ledger>(
 ) -> Result<Plan, Stop>
     ensures plans { PlansIn (context script.now body cells.old) (context script.now body cells.new) heap.old heap.new (λ here. block_then here block.now (part_of.Tried node) (tried_ended here node)) result }
     ensures front { OnOk result (take (length cells.old) cells.new ≡ cells.old) }
+    ensures retains { Retains heap.old heap.new }
 {
     let list = Part::Tried(node);
     let item = StatementItem::TriedEnded { node };
@@ -93,6 +97,7 @@ pub(crate) fn statement_plan<L: Ledger>(
     requires { slice_get script.now.nodes node.0 ≡ Some (node_of.Statement statement.now) }
     ensures plans { PlansIn (context script.now body cells.old) (context script.now body cells.new) heap.old heap.new (λ here. statement_program here node statement.now) result }
     ensures front { OnOk result (take (length cells.old) cells.new ≡ cells.old) }
+    ensures retains { Retains heap.old heap.new }
 {
     match statement {
         Statement::Block(block) => {
@@ -133,6 +138,7 @@ pub(crate) fn statement_item_plan<L: Ledger>(
 ) -> Result<Plan, Stop>
     ensures plans { PlansIn (context script.now body cells.old) (context script.now body cells.new) heap.old heap.new (λ here. statement_item here item (ended end)) result }
     ensures front { OnOk result (take (length cells.old) cells.new ≡ cells.old) }
+    ensures retains { Retains heap.old heap.new }
 {
     match item {
         StatementItem::AfterStatement { list, next } => after_statement(

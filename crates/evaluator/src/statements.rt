@@ -12,6 +12,7 @@ ghost use Rattle.evaluator.specs.declared.items.Ending.TheVariants as ending;
 ghost use Rattle.evaluator.specs.declared.items.Item.TheVariants as item_of;
 ghost use Rattle.evaluator.specs.declared.items.Job.TheVariants as job;
 ghost use Rattle.evaluator.specs.declared.items.Plan.TheVariants as plan;
+ghost use Rattle.object_heap.specs.Retains.{Retains};
 
 use crate::cells::{Cells, make_cells};
 use crate::endings::value_of;
@@ -54,6 +55,7 @@ pub(crate) fn block_last<L: Ledger>(
 ) -> Result<Plan, Stop>
     ensures plans { PlansIn (context script.now body cells.old) (context script.now body cells.new) heap.old heap.new (λ here. enter_scope here names (λ inner. statements inner list zero)) result }
     ensures front { OnOk result (take (length cells.old) cells.new ≡ cells.old) }
+    ensures retains { Retains heap.old heap.new }
 {
     make_cells(heap, cells, names)?;
     Ok(Plan::Last(Job::Statements(list, 0)))
@@ -72,6 +74,7 @@ pub(crate) fn block_then<L: Ledger>(
 ) -> Result<Plan, Stop>
     ensures plans { PlansIn (context script.now body cells.old) (context script.now body cells.new) heap.old heap.new (λ here. enter_scope here names (λ inner. part (Statements inner.body inner.cells list zero) (statement_item here item))) result }
     ensures front { OnOk result (take (length cells.old) cells.new ≡ cells.old) }
+    ensures retains { Retains heap.old heap.new }
 {
     let depth = cells.len();
     make_cells(heap, cells, names)?;
@@ -89,7 +92,8 @@ pub(crate) fn next_statement<L: Ledger>(
     i: usize,
     steps: &mut Steps<L>,
 ) -> Result<Plan, Stop>
-    ensures { PlansAt script.now body cells.now heap.old heap.new (λ here. statement_at here list i (slice_get (statements_of here.script list) i)) result }
+    ensures plans { PlansAt script.now body cells.now heap.old heap.new (λ here. statement_at here list i (slice_get (statements_of here.script list) i)) result }
+    ensures retains { Retains heap.old heap.new }
 {
     match statement_at(script, list, i) {
         None => Ok(falls()),
@@ -116,7 +120,8 @@ fn for_round<L: Ledger>(
     statement: NodeId,
     steps: &mut Steps<L>,
 ) -> Result<Plan, Stop>
-    ensures { PlansAt script.now body cells.now heap.old heap.new (λ here. for_round here node test step statement) result }
+    ensures plans { PlansAt script.now body cells.now heap.old heap.new (λ here. for_round here node test step statement) result }
+    ensures retains { Retains heap.old heap.new }
 {
     match test {
         None => Ok(wait_for(statement, StatementItem::ForAgain { node, step })),
@@ -140,7 +145,8 @@ fn round_statement<L: Ledger>(
     statement: &Statement,
     steps: &mut Steps<L>,
 ) -> Result<Plan, Stop>
-    ensures { PlansAt script.now body cells.now heap.old heap.new (λ here. round_of here node (Some (node_of.Statement statement.now))) result }
+    ensures plans { PlansAt script.now body cells.now heap.old heap.new (λ here. round_of here node (Some (node_of.Statement statement.now))) result }
+    ensures retains { Retains heap.old heap.new }
 {
     match statement {
         Statement::While { test, body: inner } => {
@@ -174,7 +180,8 @@ fn round_node<L: Ledger>(
     found: &Node,
     steps: &mut Steps<L>,
 ) -> Result<Plan, Stop>
-    ensures { PlansAt script.now body cells.now heap.old heap.new (λ here. round_of here node (Some found.now)) result }
+    ensures plans { PlansAt script.now body cells.now heap.old heap.new (λ here. round_of here node (Some found.now)) result }
+    ensures retains { Retains heap.old heap.new }
 {
     match found {
         Node::Statement(statement) => round_statement(
@@ -193,7 +200,8 @@ pub(crate) fn round<L: Ledger>(
     node: NodeId,
     steps: &mut Steps<L>,
 ) -> Result<Plan, Stop>
-    ensures { PlansAt script.now body cells.now heap.old heap.new (λ here. round_of here node (slice_get here.script.nodes node.0)) result }
+    ensures plans { PlansAt script.now body cells.now heap.old heap.new (λ here. round_of here node (slice_get here.script.nodes node.0)) result }
+    ensures retains { Retains heap.old heap.new }
 {
     match node_at(script, node) {
         None => Ok(falls()),
@@ -211,7 +219,8 @@ pub(crate) fn for_again<L: Ledger>(
     end: Ending,
     steps: &mut Steps<L>,
 ) -> Result<Plan, Stop>
-    ensures { PlansAt script.now body cells.now heap.old heap.new (λ here. for_again here node step (ended end)) result }
+    ensures plans { PlansAt script.now body cells.now heap.old heap.new (λ here. for_again here node step (ended end)) result }
+    ensures retains { Retains heap.old heap.new }
 {
     match end {
         Ending::Gives(_) | Ending::Continues => match step {
@@ -233,7 +242,8 @@ pub(crate) fn while_again<L: Ledger>(
     end: Ending,
     steps: &mut Steps<L>,
 ) -> Result<Plan, Stop>
-    ensures { PlansAt script.now body cells.now heap.old heap.new (λ here. while_again here node (ended end)) result }
+    ensures plans { PlansAt script.now body cells.now heap.old heap.new (λ here. while_again here node (ended end)) result }
+    ensures retains { Retains heap.old heap.new }
 {
     match end {
         Ending::Gives(_) | Ending::Continues => Ok(Plan::Last(Job::Round(node))),
@@ -252,7 +262,8 @@ pub(crate) fn for_begun<L: Ledger>(
     end: Ending,
     steps: &mut Steps<L>,
 ) -> Result<Plan, Stop>
-    ensures { PlansAt script.now body cells.now heap.old heap.new (λ here. for_begun here node (ended end)) result }
+    ensures plans { PlansAt script.now body cells.now heap.old heap.new (λ here. for_begun here node (ended end)) result }
+    ensures retains { Retains heap.old heap.new }
 {
     match end {
         Ending::Gives(_) => Ok(Plan::Last(Job::Round(node))),
@@ -273,7 +284,8 @@ pub(crate) fn after_statement<L: Ledger>(
     end: Ending,
     steps: &mut Steps<L>,
 ) -> Result<Plan, Stop>
-    ensures { PlansAt script.now body cells.now heap.old heap.new (λ here. after_statement here list next (ended end)) result }
+    ensures plans { PlansAt script.now body cells.now heap.old heap.new (λ here. after_statement here list next (ended end)) result }
+    ensures retains { Retains heap.old heap.new }
 {
     match end {
         Ending::Gives(_) => Ok(Plan::Last(Job::Statements(list, next))),
@@ -304,7 +316,8 @@ pub(crate) fn while_valued<L: Ledger>(
     end: Ending,
     steps: &mut Steps<L>,
 ) -> Result<Plan, Stop>
-    ensures { PlansAt script.now body cells.now heap.old heap.new (λ here. while_valued here node statement (ended end)) result }
+    ensures plans { PlansAt script.now body cells.now heap.old heap.new (λ here. while_valued here node statement (ended end)) result }
+    ensures retains { Retains heap.old heap.new }
 {
     match value_of(end) {
         Err(end) => Ok(Plan::Ends(end)),
@@ -329,7 +342,8 @@ pub(crate) fn for_valued<L: Ledger>(
     end: Ending,
     steps: &mut Steps<L>,
 ) -> Result<Plan, Stop>
-    ensures { PlansAt script.now body cells.now heap.old heap.new (λ here. for_valued here node step statement (ended end)) result }
+    ensures plans { PlansAt script.now body cells.now heap.old heap.new (λ here. for_valued here node step statement (ended end)) result }
+    ensures retains { Retains heap.old heap.new }
 {
     match value_of(end) {
         Err(end) => Ok(Plan::Ends(end)),
@@ -352,7 +366,8 @@ pub(crate) fn for_stepped<L: Ledger>(
     end: Ending,
     steps: &mut Steps<L>,
 ) -> Result<Plan, Stop>
-    ensures { PlansAt script.now body cells.now heap.old heap.new (λ here. for_stepped here node (ended end)) result }
+    ensures plans { PlansAt script.now body cells.now heap.old heap.new (λ here. for_stepped here node (ended end)) result }
+    ensures retains { Retains heap.old heap.new }
 {
     match value_of(end) {
         Err(end) => Ok(Plan::Ends(end)),
@@ -372,6 +387,7 @@ pub(crate) fn for_statement<L: Ledger>(
 ) -> Result<Plan, Stop>
     ensures plans { PlansIn (context script.now body cells.old) (context script.now body cells.new) heap.old heap.new (λ here. enter_scope here names (λ inner. for_first inner node first)) result }
     ensures front { OnOk result (take (length cells.old) cells.new ≡ cells.old) }
+    ensures retains { Retains heap.old heap.new }
 {
     make_cells(heap, cells, names)?;
     match first {
@@ -392,7 +408,8 @@ pub(crate) fn if_valued<L: Ledger>(
     end: Ending,
     steps: &mut Steps<L>,
 ) -> Result<Plan, Stop>
-    ensures { PlansAt script.now body cells.now heap.old heap.new (λ here. if_valued here then otherwise (ended end)) result }
+    ensures plans { PlansAt script.now body cells.now heap.old heap.new (λ here. if_valued here then otherwise (ended end)) result }
+    ensures retains { Retains heap.old heap.new }
 {
     match value_of(end) {
         Err(end) => Ok(Plan::Ends(end)),
@@ -416,7 +433,8 @@ pub(crate) fn return_valued<L: Ledger>(
     end: Ending,
     steps: &mut Steps<L>,
 ) -> Result<Plan, Stop>
-    ensures { PlansAt script.now body cells.now heap.old heap.new (λ here. return_valued (ended end)) result }
+    ensures plans { PlansAt script.now body cells.now heap.old heap.new (λ here. return_valued (ended end)) result }
+    ensures retains { Retains heap.old heap.new }
 {
     match value_of(end) {
         Err(end) => Ok(Plan::Ends(end)),
@@ -432,7 +450,8 @@ pub(crate) fn throw_valued<L: Ledger>(
     end: Ending,
     steps: &mut Steps<L>,
 ) -> Result<Plan, Stop>
-    ensures { PlansAt script.now body cells.now heap.old heap.new (λ here. throw_valued (ended end)) result }
+    ensures plans { PlansAt script.now body cells.now heap.old heap.new (λ here. throw_valued (ended end)) result }
+    ensures retains { Retains heap.old heap.new }
 {
     match value_of(end) {
         Err(end) => Ok(Plan::Ends(end)),

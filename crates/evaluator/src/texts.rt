@@ -6,6 +6,7 @@ ghost use Rattle.property_keys.specs.Limits.{most_units};
 ghost use Rattle.es_model.specs.World.{World, number_of, units_of};
 ghost use Rattle.evaluator.specs.Plans.{joined_world};
 ghost use Rattle.evaluator.specs.Values.{key_of_text};
+ghost use Rattle.object_heap.specs.Retains.{Retains};
 ghost use Rattle.object_heap.specs.Stands.{Goes, StandsFor};
 
 use object_heap::Heap;
@@ -46,6 +47,7 @@ pub(crate) fn intern(heap: &mut Heap, units: &Units) -> Result<TextId, NoMemory>
     ensures number { IfOk result (λ id. (w : World) → StandsFor heap.old w → id ≡ number_of w.lists units.now) }
     ensures ok { OnOk result ((w : World) → StandsFor heap.old w → Goes heap.old heap.new w (changed (Interning units.now) w)) }
     ensures short { nat_le (length units.now) most_units ≡ true }
+    ensures retains { Retains heap.old heap.new }
 {
     let _length = units.len();
     match heap.find(units) {
@@ -87,6 +89,7 @@ pub(crate) fn join(heap: &mut Heap, a: TextId, b: TextId) -> Result<Option<TextI
     ensures fits { IfOk result (λ text. (w : World) → StandsFor heap.old w → nat_le (length (units_of w.lists a) + length (units_of w.lists b)) most_units ≡ is_some text) }
     ensures number { IfOk result (λ text. IfSome text (λ id. (w : World) → StandsFor heap.old w → id ≡ number_of w.lists (units_of w.lists a ++ units_of w.lists b))) }
     ensures goes { IfOk result (λ text. (w : World) → StandsFor heap.old w → Goes heap.old heap.new w (joined_world w a b text)) }
+    ensures retains { Retains heap.old heap.new }
 {
     if text_len(heap, a) + text_len(heap, b) > MOST_UNITS {
         return Ok(None);
@@ -119,6 +122,7 @@ pub(crate) fn text_unit(heap: &Heap, text: TextId, index: u32) -> Option<u16>
 pub(crate) fn unit_text(heap: &mut Heap, unit: u16) -> Result<TextId, NoMemory>
     ensures number { IfOk result (λ id. (w : World) → StandsFor heap.old w → id ≡ number_of w.lists (unit ∷ [])) }
     ensures ok { OnOk result ((w : World) → StandsFor heap.old w → Goes heap.old heap.new w (changed (Interning (unit ∷ [])) w)) }
+    ensures retains { Retains heap.old heap.new }
 {
     let mut units = Units::new(heap.alloc());
     match units.push(unit) {

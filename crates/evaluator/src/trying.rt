@@ -9,6 +9,7 @@ ghost use Rattle.evaluator.specs.Plans.{PlansIn, ended};
 ghost use Rattle.evaluator.specs.Scopes.{enter_scope};
 ghost use Rattle.evaluator.specs.declared.items.Ending.TheVariants.{Throws};
 ghost use Rattle.evaluator.specs.Statements.{catch_in, catch_of, finally_in, finish_try, last_of, tried_ended};
+ghost use Rattle.object_heap.specs.Retains.{Retains};
 
 use crate::cells::{Cells, make_cells};
 use crate::items::{Ending, Job, Plan, StatementItem};
@@ -31,6 +32,7 @@ fn last_of<L: Ledger>(
 ) -> Result<Plan, Stop>
     ensures plans { PlansIn (context script.now body cells.old) (context script.now body cells.new) heap.old heap.new (λ here. last_of here node finally.now (ended before)) result }
     ensures front { OnOk result (take (length cells.old) cells.new ≡ cells.old) }
+    ensures retains { Retains heap.old heap.new }
 {
     match finally {
         None => Ok(Plan::Ends(before)),
@@ -59,6 +61,7 @@ fn finish_statement<L: Ledger>(
 ) -> Result<Plan, Stop>
     ensures plans { PlansIn (context script.now body cells.old) (context script.now body cells.new) heap.old heap.new (λ here. last_of here node (finally_in (Some (node_of.Statement statement.now))) (ended before)) result }
     ensures front { OnOk result (take (length cells.old) cells.new ≡ cells.old) }
+    ensures retains { Retains heap.old heap.new }
 {
     match statement {
         Statement::Try { finally, .. } => last_of(
@@ -90,6 +93,7 @@ fn finish_node<L: Ledger>(
 ) -> Result<Plan, Stop>
     ensures plans { PlansIn (context script.now body cells.old) (context script.now body cells.new) heap.old heap.new (λ here. last_of here node (finally_in (Some found.now)) (ended before)) result }
     ensures front { OnOk result (take (length cells.old) cells.new ≡ cells.old) }
+    ensures retains { Retains heap.old heap.new }
 {
     match found {
         Node::Statement(statement) => finish_statement(
@@ -111,6 +115,7 @@ pub(crate) fn finish_try<L: Ledger>(
 ) -> Result<Plan, Stop>
     ensures plans { PlansIn (context script.now body cells.old) (context script.now body cells.new) heap.old heap.new (λ here. finish_try here node (ended before)) result }
     ensures front { OnOk result (take (length cells.old) cells.new ≡ cells.old) }
+    ensures retains { Retains heap.old heap.new }
 {
     match node_at(script, node) {
         None => Ok(Plan::Ends(before)),
@@ -131,6 +136,7 @@ fn enter_caught<L: Ledger>(
 ) -> Result<Plan, Stop>
     ensures plans { PlansIn (context script.now body cells.old) (context script.now body cells.new) heap.old heap.new (λ here. make_cell (Some thrown) (λ cell. enter_scope (with_cells here (here.cells ++ cell ∷ [])) names (λ inner. part (Statements inner.body inner.cells (part_of.Caught node) zero) (finish_try here node)))) result }
     ensures front { OnOk result (take (length cells.old) cells.new ≡ cells.old) }
+    ensures retains { Retains heap.old heap.new }
 {
     let depth = cells.len();
     let cell = heap.new_cell(Some(thrown))?;
@@ -155,6 +161,7 @@ fn caught<L: Ledger>(
 ) -> Result<Plan, Stop>
     ensures plans { PlansIn (context script.now body cells.old) (context script.now body cells.new) heap.old heap.new (λ here. catch_of here node (Some catch.now) thrown) result }
     ensures front { OnOk result (take (length cells.old) cells.new ≡ cells.old) }
+    ensures retains { Retains heap.old heap.new }
 {
     match &catch.parameter {
         None => block_then(
@@ -192,6 +199,7 @@ fn catch_or_finish<L: Ledger>(
 ) -> Result<Plan, Stop>
     ensures plans { PlansIn (context script.now body cells.old) (context script.now body cells.new) heap.old heap.new (λ here. catch_of here node catch.now thrown) result }
     ensures front { OnOk result (take (length cells.old) cells.new ≡ cells.old) }
+    ensures retains { Retains heap.old heap.new }
 {
     match catch {
         None => finish_try(
@@ -219,6 +227,7 @@ fn catch_statement<L: Ledger>(
 ) -> Result<Plan, Stop>
     ensures plans { PlansIn (context script.now body cells.old) (context script.now body cells.new) heap.old heap.new (λ here. catch_of here node (catch_in (Some (node_of.Statement statement.now))) thrown) result }
     ensures front { OnOk result (take (length cells.old) cells.new ≡ cells.old) }
+    ensures retains { Retains heap.old heap.new }
 {
     match statement {
         Statement::Try { catch, .. } => catch_or_finish(
@@ -258,6 +267,7 @@ fn catch_node<L: Ledger>(
 ) -> Result<Plan, Stop>
     ensures plans { PlansIn (context script.now body cells.old) (context script.now body cells.new) heap.old heap.new (λ here. catch_of here node (catch_in (Some found.now)) thrown) result }
     ensures front { OnOk result (take (length cells.old) cells.new ≡ cells.old) }
+    ensures retains { Retains heap.old heap.new }
 {
     match found {
         Node::Statement(statement) => catch_statement(
@@ -288,6 +298,7 @@ fn thrown_tried<L: Ledger>(
 ) -> Result<Plan, Stop>
     ensures plans { PlansIn (context script.now body cells.old) (context script.now body cells.new) heap.old heap.new (λ here. tried_ended here node (ended (Throws thrown))) result }
     ensures front { OnOk result (take (length cells.old) cells.new ≡ cells.old) }
+    ensures retains { Retains heap.old heap.new }
 {
     match node_at(script, node) {
         None => finish_try(
@@ -315,6 +326,7 @@ pub(crate) fn tried_ended<L: Ledger>(
 ) -> Result<Plan, Stop>
     ensures plans { PlansIn (context script.now body cells.old) (context script.now body cells.new) heap.old heap.new (λ here. tried_ended here node (ended end)) result }
     ensures front { OnOk result (take (length cells.old) cells.new ≡ cells.old) }
+    ensures retains { Retains heap.old heap.new }
 {
     match end {
         Ending::Throws(thrown) => thrown_tried(heap, script, body, cells, node, thrown, steps),

@@ -8,6 +8,7 @@ ghost use Rattle.evaluator.specs.Operators.{goes_right};
 ghost use Rattle.evaluator.specs.References.{object_or_undefined};
 ghost use Rattle.evaluator.specs.declared.references.Arithmetic.TheVariants as arithmetic;
 ghost use Rattle.evaluator.specs.Values.{calculate, is_length, is_nullish, is_own_key, is_text, type_name, whole_of};
+ghost use Rattle.object_heap.specs.Retains.{Retains};
 ghost use Rattle.object_heap.specs.Stands.{Goes, StandsFor};
 
 use crate::references::Arithmetic;
@@ -193,6 +194,7 @@ fn type_name(heap: &Heap, value: Value) -> &'static [u8]
 pub(crate) fn type_text(heap: &mut Heap, value: Value) -> Result<TextId, NoMemory>
     ensures number { IfOk result (λ id. (w : World) → StandsFor heap.old w → id ≡ number_of w.lists (type_name w.lists value)) }
     ensures ok { OnOk result ((w : World) → StandsFor heap.old w → Goes heap.old heap.new w (changed (Interning (type_name w.lists value)) w)) }
+    ensures retains { Retains heap.old heap.new }
 {
     let name = units_of(heap.alloc(), type_name(heap, value))?;
     heap.intern(name)

@@ -4,6 +4,7 @@ ghost use Rattle.es_model.specs.Program.{look};
 ghost use Rattle.es_model.specs.World.{cell as cell_of};
 ghost use Rattle.evaluator.specs.Plans.{PlansAt};
 ghost use Rattle.evaluator.specs.References.{cell_put, delete_of, delete_reference, put_above, put_again, put_global, put_of, put_value, unless_refused};
+ghost use Rattle.object_heap.specs.Retains.{Retains};
 
 use crate::cells::Cells;
 use crate::items::{Asked, Ending, FlagAsked, Plan};
@@ -25,7 +26,8 @@ pub(crate) fn unless_refused<L: Ledger>(
     given: Value,
     steps: &mut Steps<L>,
 ) -> Result<Plan, Stop>
-    ensures { PlansAt script.now body cells.now heap.old heap.new (λ here. unless_refused here succeeded given) result }
+    ensures plans { PlansAt script.now body cells.now heap.old heap.new (λ here. unless_refused here succeeded given) result }
+    ensures retains { Retains heap.old heap.new }
 {
     if succeeded || !body.strict {
         Ok(Plan::Ends(Ending::Gives(given)))
@@ -48,7 +50,8 @@ fn put_above<L: Ledger>(
     given: Value,
     steps: &mut Steps<L>,
 ) -> Result<Plan, Stop>
-    ensures { PlansAt script.now body cells.now heap.old heap.new (λ here. put_above here class base key site value given) result }
+    ensures plans { PlansAt script.now body cells.now heap.old heap.new (λ here. put_above here class base key site value given) result }
+    ensures retains { Retains heap.old heap.new }
 {
     heap.charge(1)?;
     let request = Request::Write {
@@ -73,7 +76,8 @@ fn put_of<L: Ledger>(
     given: Value,
     steps: &mut Steps<L>,
 ) -> Result<Plan, Stop>
-    ensures { PlansAt script.now body cells.now heap.old heap.new (λ here. put_of here base key site value given) result }
+    ensures plans { PlansAt script.now body cells.now heap.old heap.new (λ here. put_of here base key site value given) result }
+    ensures retains { Retains heap.old heap.new }
 {
     match base {
         Value::Undefined | Value::Null => not_an_object(heap, script, body, cells, steps),
@@ -161,7 +165,8 @@ fn put_cell<L: Ledger>(
     given: Value,
     steps: &mut Steps<L>,
 ) -> Result<Plan, Stop>
-    ensures { PlansAt script.now body cells.now heap.old heap.new (λ here. look (λ l. cell_put name cell constant value given (cell_of l cell))) result }
+    ensures plans { PlansAt script.now body cells.now heap.old heap.new (λ here. look (λ l. cell_put name cell constant value given (cell_of l cell))) result }
+    ensures retains { Retains heap.old heap.new }
 {
     match heap.cell(cell) {
         None => not_initialised(heap, script, body, cells, name, steps),
@@ -186,7 +191,8 @@ fn put_global<L: Ledger>(
     given: Value,
     steps: &mut Steps<L>,
 ) -> Result<Plan, Stop>
-    ensures { PlansAt script.now body cells.now heap.old heap.new (λ here. put_global here key value given) result }
+    ensures plans { PlansAt script.now body cells.now heap.old heap.new (λ here. put_global here key value given) result }
+    ensures retains { Retains heap.old heap.new }
 {
     let global = Intrinsic::Global.object();
     let request = Request::Write {
@@ -212,7 +218,8 @@ pub(crate) fn put_again<L: Ledger>(
     present: bool,
     steps: &mut Steps<L>,
 ) -> Result<Plan, Stop>
-    ensures { PlansAt script.now body cells.now heap.old heap.new (λ here. put_again here name key value given present) result }
+    ensures plans { PlansAt script.now body cells.now heap.old heap.new (λ here. put_again here name key value given present) result }
+    ensures retains { Retains heap.old heap.new }
 {
     if present || !body.strict {
         put_global(heap, script, body, cells, key, value, given, steps)
@@ -232,7 +239,8 @@ pub(crate) fn put_value<L: Ledger>(
     given: Value,
     steps: &mut Steps<L>,
 ) -> Result<Plan, Stop>
-    ensures { PlansAt script.now body cells.now heap.old heap.new (λ here. put_value here reference value given) result }
+    ensures plans { PlansAt script.now body cells.now heap.old heap.new (λ here. put_value here reference value given) result }
+    ensures retains { Retains heap.old heap.new }
 {
     match reference {
         Reference::Cell {
@@ -290,7 +298,8 @@ fn delete_of<L: Ledger>(
     key: PropKey,
     steps: &mut Steps<L>,
 ) -> Result<Plan, Stop>
-    ensures { PlansAt script.now body cells.now heap.old heap.new (λ here. delete_of here base key) result }
+    ensures plans { PlansAt script.now body cells.now heap.old heap.new (λ here. delete_of here base key) result }
+    ensures retains { Retains heap.old heap.new }
 {
     match base {
         Value::Undefined | Value::Null => not_an_object(heap, script, body, cells, steps),
@@ -319,7 +328,8 @@ pub(crate) fn delete_reference<L: Ledger>(
     reference: Reference,
     steps: &mut Steps<L>,
 ) -> Result<Plan, Stop>
-    ensures { PlansAt script.now body cells.now heap.old heap.new (λ here. delete_reference here reference) result }
+    ensures plans { PlansAt script.now body cells.now heap.old heap.new (λ here. delete_reference here reference) result }
+    ensures retains { Retains heap.old heap.new }
 {
     match reference {
         Reference::Property { base, key, .. } => delete_of(

@@ -7,12 +7,12 @@ use Rattle.evaluator.proofs.Joining.{text_stage}
 use Rattle.evaluator.proofs.Planned.{plans_then}
 use Rattle.evaluator.proofs.accesses.resolve.Goals as goal
 
-pub returns : goal.returns
-returns g c = λ w h.
+pub returns-clause-plans : goal.returns-clause-plans
+returns-clause-plans g c = λ w h.
     let here = context c.args.script.now c.args.body c.args.cells.now in
     let named = c.args.named.now in
     let goes = c.in_ok-name.ensures.ok w h in
     subst (λ s. Plans here here c.args.heap.now c.resolve_bound.new.heap w s c.resolve_bound.result)
     (sym (text_stage named.name (λ t. resolve_bound here t named.binding (purpose_program here c.args.purpose)) w c.in_ok-name.name c.intern.ensures.short (c.in_ok-name.ensures.number w h)))
     (plans_then here here c.args.heap.now c.intern.new.heap c.resolve_bound.new.heap w (changed (Interning named.name) w) _ c.resolve_bound.result goes
-    (c.resolve_bound.ensures (changed (Interning named.name) w) goes.stands))
+    (c.resolve_bound.ensures.plans (changed (Interning named.name) w) goes.stands))

@@ -6,8 +6,8 @@ use Rattle.evaluator.specs.Plans.{Plans, reading_program}
 use Rattle.evaluator.specs.References.{get_value}
 use Rattle.evaluator.proofs.calls.callee_reference.Goals as goal
 
-pub returns : goal.returns
-returns g c = λ w h.
+pub returns-clause-plans : goal.returns-clause-plans
+returns-clause-plans g c = λ w h.
     let here = context c.args.script.now c.args.body c.args.cells.now in
     subst (λ b. Plans here here c.args.heap.now c.get_value.new.heap w (stage_of (get_value here c.args.reference (reading_program here (Callee c.args.node b))) w) c.get_value.result)
-    c.base_of.ensures (c.get_value.ensures w h)
+    c.base_of.ensures (c.get_value.ensures.plans w h)

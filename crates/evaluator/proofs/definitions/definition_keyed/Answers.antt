@@ -8,8 +8,8 @@ use Rattle.evaluator.specs.Literals.{properties_at}
 use Rattle.evaluator.specs.Plans.{Plans, property_keyed}
 use Rattle.evaluator.proofs.definitions.definition_keyed.Goals as goal
 
-pub returns-then-at-property_count : goal.returns-then-at-property_count
-returns-then-at-property_count g c = λ w h.
+pub returns-then-at-property_count-clause-plans : goal.returns-then-at-property_count-clause-plans
+returns-then-at-property_count-clause-plans g c = λ w h.
     let here = context c.args.script.now c.args.body c.args.cells.now in
     let a = c.args.heap.now in
     let past : length (properties_at here c.args.node) ≤ c.args.at = grind (arith, nat_tests, c.property_count.ensures, c.if-at-property_count.true) in

@@ -6,8 +6,8 @@ use Rattle.evaluator.specs.Literals.{name_units}
 use Rattle.evaluator.proofs.Defining.{named_plan}
 use Rattle.evaluator.proofs.definitions.method_keyed.Goals as goal
 
-pub returns-in-Some : goal.returns-in-Some
-returns-in-Some g c = λ w h.
+pub returns-in-Some-clause-plans : goal.returns-in-Some-clause-plans
+returns-in-Some-clause-plans g c = λ w h.
     let here = context c.args.script.now c.args.body c.args.cells.now in
     let number = subst
     (λ o. IfSome o (λ id. (v : World) → StandsFor c.args.heap.now v → id ≡ number_of v.lists (c.args.prefix.now ++ name_units v.lists c.args.key))) c.in-Some.is c.in_ok-name_of_key.ensures.number in

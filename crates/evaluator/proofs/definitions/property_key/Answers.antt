@@ -8,8 +8,8 @@ use Rattle.evaluator.specs.Plans.{property_keyed}
 use Rattle.evaluator.proofs.Defining.{computed_plan, key_stage, plans_same}
 use Rattle.evaluator.proofs.definitions.property_key.Goals as goal
 
-pub returns-in_ok-text-in-Fixed : goal.returns-in_ok-text-in-Fixed
-returns-in_ok-text-in-Fixed g c = λ w h.
+pub returns-in_ok-text-in-Fixed-clause-plans : goal.returns-in_ok-text-in-Fixed-clause-plans
+returns-in_ok-text-in-Fixed-clause-plans g c = λ w h.
     let here = context c.args.script.now c.args.body c.args.cells.now in
     let o = c.args.place.object in
     let next = property_keyed here o (c.args.property.now ∷ drop c.args.place.next (properties_at here c.args.place.node)) in
@@ -18,10 +18,10 @@ returns-in_ok-text-in-Fixed g c = λ w h.
     rw c.in-Fixed.is
     (plans_same here c.args.heap.now c.intern.new.heap c.property_keyed.new.heap w u (property_key here (Fixed c.in-Fixed.units) next) (next c.key_of-key.result) c.property_keyed.result one
     (key_stage c.in-Fixed.units next w c.in_ok-text-in-Fixed.text c.key_of-key.result c.intern.ensures.short (c.in_ok-text-in-Fixed.ensures.number w h) (c.key_of-key.ensures u one.stands))
-    (c.property_keyed.ensures u one.stands))
+    (c.property_keyed.ensures.plans u one.stands))
 
-pub returns-in-Computed : goal.returns-in-Computed
-returns-in-Computed g c = λ w h.
+pub returns-in-Computed-clause-plans : goal.returns-in-Computed-clause-plans
+returns-in-Computed-clause-plans g c = λ w h.
     let here = context c.args.script.now c.args.body c.args.cells.now in
     rw c.in-Computed.is
     (computed_plan here c.args.heap.now w c.args.place.node c.args.place.object c.args.property.now c.args.place.at c.args.place.next c.in-Computed.key h c.requires)

@@ -5,9 +5,9 @@ use Rattle.evaluator.specs.Plans.{made_by}
 use Rattle.evaluator.proofs.Planned.{plans_then}
 use Rattle.evaluator.proofs.definitions.property_valued.Goals as goal
 
-pub returns : goal.returns
-returns g c = λ w h.
+pub returns-clause-plans : goal.returns-clause-plans
+returns-clause-plans g c = λ w h.
     let here = context c.args.script.now c.args.body c.args.cells.now in
     let u : World = changed (Defining c.args.object c.args.key (made_by c.args.made c.args.value)) w in
-    let one = c.in_ok-define.ensures w h in
-    plans_then here here c.args.heap.now c.define.new.heap c.properties_from.new.heap w u _ c.properties_from.result one (c.properties_from.ensures u one.stands)
+    let one = c.in_ok-define.ensures.goes w h in
+    plans_then here here c.args.heap.now c.define.new.heap c.properties_from.new.heap w u _ c.properties_from.result one (c.properties_from.ensures.plans u one.stands)

@@ -10,8 +10,8 @@ use Rattle.evaluator.specs.References.{get_value, resolve_bound}
 use Rattle.evaluator.proofs.Defining.{defines_same, shorthand_stage}
 use Rattle.evaluator.proofs.definitions.shorthand.Goals as goal
 
-pub returns : goal.returns
-returns g c = λ w h.
+pub returns-clause-defines : goal.returns-clause-defines
+returns-clause-defines g c = λ w h.
     let here = context c.args.script.now c.args.body c.args.cells.now in
     let named = c.args.named.now in
     let o = c.args.place.object in
@@ -23,4 +23,4 @@ returns g c = λ w h.
     (resolve_bound here c.in_ok-name.name named.binding (λ r. get_value here r (property_valued o c.key_of-key.result plain rest))) rest c.name_bound.result
     (goes_then c.args.heap.now c.intern.new.heap c.intern-2.new.heap w u (changed (Interning named.name) u) one two)
     (shorthand_stage here o named rest w u c.in_ok-text.text c.in_ok-name.name c.key_of-key.result c.intern.ensures.short (c.in_ok-text.ensures.number w h) refl (c.key_of-key.ensures u one.stands) (c.in_ok-name.ensures.number u one.stands))
-    (c.name_bound.ensures (changed (Interning named.name) u) two.stands)
+    (c.name_bound.ensures.defines (changed (Interning named.name) u) two.stands)

@@ -16,4 +16,4 @@ pub returns-in-Ok-clause-plans : goal.returns-in-Ok-clause-plans
 returns-in-Ok-clause-plans g c = λ w h.
     let here = context c.args.script.now c.args.body c.args.cells.now in
     subst (λ p. Plans here here c.args.heap.now c.item_valued.new.heap w (stage_of p w) c.item_valued.result) (sym (item_on here c.args.item (ended c.args.end) c.in_default.not-Statement))
-    (valued_goes here c.args.heap.now c.item_valued.new.heap w (item_valued here c.args.item) (ended c.args.end) c.in-Ok.value c.item_valued.result c.in-Ok.ensures (c.item_valued.ensures w h))
+    (valued_goes here c.args.heap.now c.item_valued.new.heap w (item_valued here c.args.item) (ended c.args.end) c.in-Ok.value c.item_valued.result c.in-Ok.ensures (c.item_valued.ensures.plans w h))

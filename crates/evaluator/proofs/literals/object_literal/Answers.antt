@@ -14,8 +14,8 @@ use Rattle.evaluator.proofs.Defining.{plans_same}
 use Rattle.evaluator.proofs.LiteralOrigins.{object_stage, origin_is}
 use Rattle.evaluator.proofs.literals.object_literal.Goals as goal
 
-pub returns : goal.returns
-returns g c = λ w same h.
+pub returns-clause-plans : goal.returns-clause-plans
+returns-clause-plans g c = λ w same h.
     let script = c.args.script.now in
     let here = context script c.args.body c.args.cells.now in
     let facts = c.literal-facts.result.now in
@@ -32,4 +32,4 @@ returns g c = λ w same h.
     let two : Goes b d w u = subst (λ p. Goes b d w (changed (Making Ordinary x (Some p)) w)) c.object-proto.ensures (c.in_ok-object.ensures.ok w one.stands) in
     plans_same here a d c.properties_from.new.heap w u (object_literal here c.args.node c.args.literal) (properties_from here o (properties_at here c.args.node)) c.properties_from.result (goes_then a b d w w u one two)
     (object_stage here c.args.node c.args.literal w o x (origin_is script w.script c.args.literal facts (origin_at b id) same c.literal-facts.ensures c.in_ok-origin.ensures.kind) (c.in_ok-object.ensures.object w one.stands))
-    (c.properties_from.ensures u two.stands)
+    (c.properties_from.ensures.plans u two.stands)

@@ -1,6 +1,7 @@
 use Rattle.std.proofs.Common.{◌≡◌, ◌≤◌, ◌+◌, ◌*◌, arith, ◌∙◌, ap, sym, subst, Ok, length}
 use Rattle.std.proofs.lemmas.Bool.{OnFalse_at, OnTrue_at}
 use Rattle.es_model.specs.Weights.{renewed}
+use Rattle.object_heap.proofs.Retaining.{retains_none, retains_then}
 use Rattle.evaluator.specs.Contexts.{context}
 use Rattle.evaluator.specs.Machine.{steps_for}
 use Rattle.evaluator.proofs.Bounded.{job_server, job_serves, some_left, steps_enough}
@@ -21,6 +22,7 @@ steps-init g c = record {
       let some = subst (λ x. most + length c.args.pending.items ≤ x) (sym all) (steps_enough script w.turns (length c.args.pending.items)) in
       stood_first c.new-left.result most script c.args.body S n c.args.heap.now w c.args.cells c.args.pending.items c.args.current some h;
   sound = λ w same h current items. sound_first (context c.args.script.now c.args.body c.args.cells) c.args.heap.now w c.args.pending.items c.args.current h current items;
+  retains = retains_none c.args.heap.now;
 }
 
 -- a step is left in each world that the heap stands for
@@ -49,6 +51,7 @@ steps-preserved g c = record {
   sound = λ w same h current items.
       sound_on c.args.script.now c.args.body c.args.heap.now c.steps.heap c.step.new.heap w c.steps.cells c.step.new.cells c.steps.pending.items c.step.new.pending.items c.steps.current c.step.result _ same (c.steps.invariant.sound w same h current items)
       (c.in-Ok-GoOn.is ∙ ap (λ x. Ok x) c.in-Ok-GoOn.field-0-is) (λ v sv hv now ps. c.step.ensures.sound v sv hv now ps);
+  retains = retains_then _ _ _ c.steps.invariant.retains c.step.ensures.retains;
 }
 
 pub returns-in-Ok-Asks-clause-turn : goal.returns-in-Ok-Asks-clause-turn

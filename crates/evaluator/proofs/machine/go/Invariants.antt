@@ -2,6 +2,7 @@ use Rattle.std.proofs.Common.{◌≡◌, ℕ, ◌+◌, ◌*◌, Ok, length}
 use Rattle.es_model.specs.Program.{Server}
 use Rattle.es_model.specs.Weights.{renewed}
 use Rattle.es_model.specs.World.{World}
+use Rattle.object_heap.specs.Retains.{Retains}
 use Rattle.object_heap.specs.Stands.{StandsFor}
 use Rattle.evaluator.specs.declared.frames.Next.TheVariants.{GoOn}
 use Rattle.evaluator.specs.Contexts.{context}
@@ -18,6 +19,7 @@ invariant-steps g l = record {
       Stood (l.left + 3) (2 * (renewed l.script + (2 * renewed l.script) * w.turns + renewed l.script * length l.fn.pending.items) + 3) l.script l.body S n l.fn.heap l.heap w l.fn.cells l.fn.pending.items l.fn.current l.cells l.pending.items l.current;
   sound : (w : World) → w.script ≡ l.script → StandsFor l.fn.heap w → KeepsCurrent (context l.script l.body l.fn.cells) w l.fn.current → KeepsItems (context l.script l.body l.fn.cells) w l.fn.pending.items →
       StaysSoundNext (context l.script l.body l.cells) l.fn.heap l.heap w l.pending.items (Ok (GoOn l.current));
+  retains : Retains l.fn.heap l.heap;
 }
 
 abbrev pub decreases-steps : goal.decreases-steps

@@ -13,7 +13,7 @@ use Rattle.evaluator.proofs.machine.take_answer.Goals as goal
 pub returns-in-Err-clause-turn : goal.returns-in-Err-clause-turn
 returns-in-Err-clause-turn g c = λ S n w is same h.
     let here = context c.args.script.now c.args.body c.args.cells in
-    let plans = rw c.in-Err.is at (c.asked_plan.ensures w h) in
+    let plans = rw c.in-Err.is at (c.asked_plan.ensures.plans w h) in
     asked_stops c.args.script.now c.args.body c.args.cells S n c.args.heap.now c.asked_plan.new.heap w (asked_program here c.args.asked (answered c.args.answer)) c.args.pending.items c.in-Err.stop plans
 
 pub follow-requires-clause-fewer : goal.follow-requires-clause-fewer
@@ -25,7 +25,7 @@ follow-requires-clause-stacked g c = subst (λ d. IsStacked 0 c.args.pending.ite
 pub returns-in-Err-follow-clause-turn : goal.returns-in-Err-follow-clause-turn
 returns-in-Err-follow-clause-turn g c = λ S n w is same h.
     let here = context c.args.script.now c.args.body c.args.cells in
-    let plans = rw c.in-Ok.is at (c.asked_plan.ensures w h) in
+    let plans = rw c.in-Ok.is at (c.asked_plan.ensures.plans w h) in
     let p = asked_program here c.args.asked (answered c.args.answer) in
     let scope : IsInner here here = record { same = refl; front = take-length c.args.cells } in
     let steps = asked_step (length c.args.pending.items + 2) here S n c.args.heap.now c.asked_plan.new.heap w p c.args.pending.items c.follow.new.pending.items c.follow.result
@@ -39,7 +39,7 @@ continue_with-requires g c = subst (λ d. IsStacked 0 c.follow.new.pending.items
 pub returns-in-Ok-follow-clause-turn : goal.returns-in-Ok-follow-clause-turn
 returns-in-Ok-follow-clause-turn g c = λ S n w is same h.
     let here = context c.args.script.now c.args.body c.args.cells in
-    let plans = rw c.in-Ok.is at (c.asked_plan.ensures w h) in
+    let plans = rw c.in-Ok.is at (c.asked_plan.ensures.plans w h) in
     let p = asked_program here c.args.asked (answered c.args.answer) in
     let scope : IsInner here here = record { same = refl; front = take-length c.args.cells } in
     let steps = asked_step (length c.args.pending.items + 2) here S n c.args.heap.now c.asked_plan.new.heap w p c.args.pending.items c.follow.new.pending.items c.follow.result
@@ -50,14 +50,14 @@ returns-in-Ok-follow-clause-turn g c = λ S n w is same h.
 pub returns-in-Err-clause-sound : goal.returns-in-Err-clause-sound
 returns-in-Err-clause-sound g c = λ w same h kept items.
     let here = context c.args.script.now c.args.body c.args.cells in
-    let plans = rw c.in-Err.is at (c.asked_plan.ensures w h) in
+    let plans = rw c.in-Err.is at (c.asked_plan.ensures.plans w h) in
     sound_stops c.args.script.now here c.args.heap.now c.asked_plan.new.heap w c.args.pending.items c.in-Err.stop
     (stop_sound here here here (asked_program here c.args.asked (answered c.args.answer)) c.args.heap.now c.asked_plan.new.heap w c.args.pending.items c.in-Err.stop kept plans)
 
 pub returns-in-Err-follow-clause-sound : goal.returns-in-Err-follow-clause-sound
 returns-in-Err-follow-clause-sound g c = λ w same h kept items.
     let here = context c.args.script.now c.args.body c.args.cells in
-    let plans = rw c.in-Ok.is at (c.asked_plan.ensures w h) in
+    let plans = rw c.in-Ok.is at (c.asked_plan.ensures.plans w h) in
     let p = asked_program here c.args.asked (answered c.args.answer) in
     let scope : IsInner here here = record { same = refl; front = take-length c.args.cells } in
     let step = c.follow.ensures.sound here here p c.args.heap.now c.asked_plan.new.heap w scope c.len-depth.ensures c.len-depth.ensures kept items plans in
@@ -66,7 +66,7 @@ returns-in-Err-follow-clause-sound g c = λ w same h kept items.
 pub returns-in-Ok-follow-clause-sound : goal.returns-in-Ok-follow-clause-sound
 returns-in-Ok-follow-clause-sound g c = λ w same h kept items.
     let here = context c.args.script.now c.args.body c.args.cells in
-    let plans = rw c.in-Ok.is at (c.asked_plan.ensures w h) in
+    let plans = rw c.in-Ok.is at (c.asked_plan.ensures.plans w h) in
     let p = asked_program here c.args.asked (answered c.args.answer) in
     let scope : IsInner here here = record { same = refl; front = take-length c.args.cells } in
     let step = c.follow.ensures.sound here here p c.args.heap.now c.asked_plan.new.heap w scope c.len-depth.ensures c.len-depth.ensures kept items plans in

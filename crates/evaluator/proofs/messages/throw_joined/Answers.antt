@@ -13,8 +13,8 @@ use Rattle.evaluator.specs.Plans.{Plans, joined_world}
 use Rattle.evaluator.proofs.Joining.{joined_stage}
 use Rattle.evaluator.proofs.messages.throw_joined.Goals as goal
 
-pub returns-in_ok-error-in-Some : goal.returns-in_ok-error-in-Some
-returns-in_ok-error-in-Some g c = λ w h.
+pub returns-in_ok-error-in-Some-clause-plans : goal.returns-in_ok-error-in-Some-clause-plans
+returns-in_ok-error-in-Some-clause-plans g c = λ w h.
     let a = c.args.first in
     let b = c.args.second in
     let here = context c.args.script.now c.args.body c.args.cells.now in
