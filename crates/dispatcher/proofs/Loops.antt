@@ -13,21 +13,24 @@ use Rattle.es_model.specs.declared.answers.Stop.TheVariants.{Halted, NoMemory}
 use Rattle.es_model.specs.declared.requests.Request.{Request}
 use Rattle.es_model.specs.Changes.{printed_more}
 use Rattle.es_model.specs.Outcomes.{requests_of}
-use Rattle.es_model.specs.Program.{Of, Outcome, Server}
-use Rattle.es_model.specs.Servers.{IsThrifty}
+use Rattle.es_model.specs.Program.{Of, Outcome, Server, run}
+use Rattle.es_model.specs.Servers.{turn_pays}
 use Rattle.es_model.specs.Unwinding.{Nears, Reaches, Stays, unwind}
 use Rattle.es_model.specs.Weights.{renewed}
 use Rattle.es_model.specs.World.{World}
 use Rattle.es_model.proofs.Counts.{requests-plus}
 use Rattle.es_model.proofs.Unwound.{unwind-none, reaches_same, reaches_then, nears_reaches, stays_none, stays_then}
 use Rattle.object_heap.specs.Stands.{HeapView, StandsFor, Goes, goes_none, goes_then, halts_then}
+use Rattle.evaluator.specs.Functions.{script_program}
 use Rattle.es_serve.specs.Lines.{line_bytes}
+use Rattle.es_serve.specs.Serve.{model}
+use Rattle.es_serve.proofs.Models.{runs-paid, thrifty}
 use Rattle.dispatcher.specs.declared.state.Entry.{Entry}
 use Rattle.dispatcher.specs.declared.state.State.{State}
-use Rattle.dispatcher.specs.declared.state.State.TheVariants.{Serving, Returning}
+use Rattle.dispatcher.specs.declared.state.State.TheVariants.{Starting, Serving, Returning}
 use Rattle.dispatcher.specs.declared.state.Next.{Next}
 use Rattle.dispatcher.specs.declared.state.Next.TheVariants.{GoOn, Prints, Ends}
-use Rattle.dispatcher.specs.Stack.{HasSteps, Leads, StandsAt, entry_rest, height, meaning, steps_for}
+use Rattle.dispatcher.specs.Stack.{HasSteps, Leads, StandsAt, entry_rest, height, in_hand, meaning, steps_for}
 use Rattle.dispatcher.specs.declared.dispatching.Event.TheVariants as event
 use Rattle.dispatcher.specs.Dispatching.{ComesTo}
 
@@ -42,6 +45,7 @@ IsStep script S a b fs gs state r = (v : World) → v.script ≡ script → Stan
 -- ---- steps enough are left
 
 height-some : (fs : List Entry) (state : State) → 0 < height fs state
+height-some fs Starting = omega arith
 height-some fs (Serving q n) = omega arith
 height-some fs (Returning c) = omega arith
 
@@ -60,17 +64,25 @@ budget-is : (script : Tree) → renewed script ≡ 200 + 40 * most_definitions s
 unfolding renewed
 budget-is script = refl
 
-pub steps_first : (script : Tree) (S : Server) (fs : List Entry) (q : Request) (turns left : ℕ) (w : World) → IsThrifty S → fs ≡ [] → w.script ≡ script → turns ≡ w.turns →
-    left ≡ steps_for turns (most_definitions script.nodes) → HasSteps script S fs (Serving q 0) left w
-steps_first script S fs q turns left w thrifty none is same all =
+pub steps_first : (script : Tree) (S : Server) (fs : List Entry) (state : State) (turns left : ℕ) (w : World) →
+    requests_of (in_hand script S state w) < renewed w.script + turn_pays w.script * w.turns → height fs state ≡ length fs + 2 → fs ≡ [] → w.script ≡ script → turns ≡ w.turns →
+    left ≡ steps_for turns (most_definitions script.nodes) → HasSteps script S fs state left w
+steps_first script S fs state turns left w few high none is same all =
     let budget : renewed w.script ≡ 200 + 40 * most_definitions script.nodes = ap renewed is ∙ budget-is script in
-    let o : Outcome = S 0 (Of q) w in
-    let paid : 2 * requests_of o + 2 ≤ w.turns * (4 * renewed w.script) + 2 * renewed w.script = twice-paid (renewed w.script) w.turns (requests_of o) (thrifty 0 (Of q) w) in
+    let o : Outcome = in_hand script S state w in
+    let paid : 2 * requests_of o + 2 ≤ w.turns * (4 * renewed w.script) + 2 * renewed w.script = twice-paid (renewed w.script) w.turns (requests_of o) few in
     let product : w.turns * (4 * renewed w.script) ≡ turns * (800 + 160 * most_definitions script.nodes) =
     ap (λ t. t * (4 * renewed w.script)) (sym same) ∙ ap (λ x. turns * x) (let e : 4 * renewed w.script ≡ 800 + 160 * most_definitions script.nodes = omega arith in e) in
-    let asked : meaning script S fs (Serving q 0) w ≡ o = ap (λ l. unwind (entry_rest script S) l o) none ∙ unwind-none (entry_rest script S) o in
-    let counted : requests_of (meaning script S fs (Serving q 0) w) ≡ requests_of o = ap requests_of asked in
+    let asked : meaning script S fs state w ≡ o = ap (λ l. unwind (entry_rest script S) l o) none ∙ unwind-none (entry_rest script S) o in
+    let counted : requests_of (meaning script S fs state w) ≡ requests_of o = ap requests_of asked in
     let short : length fs ≡ 0 = ap length none in omega arith
+
+-- the same of a request, and of the script itself
+pub request_paid : (script : Tree) (q : Request) (w : World) → requests_of (in_hand script model (Serving q 0) w) < renewed w.script + turn_pays w.script * w.turns
+request_paid script q w = thrifty 0 (Of q) w
+
+pub script_paid : (script : Tree) (w : World) → w.script ≡ script → requests_of (in_hand script model Starting w) < renewed w.script + turn_pays w.script * w.turns
+script_paid script w same = subst (λ t. requests_of (run model (script_program t) 0 w) < renewed w.script + turn_pays w.script * w.turns) same (runs-paid w)
 
 -- ---- from the world at the start
 

@@ -1,5 +1,5 @@
 -- What a dispatcher comes to.
-use Rattle.std.specs.Prelude.{Result, Ok, Err}
+use Rattle.std.specs.Prelude.{◌<◌, ⊤, ℕ, Result, Ok, Err}
 use Rattle.es_tree.specs.Tree.{Tree}
 use Rattle.es_model.specs.declared.answers.Stop.{Stop}
 use Rattle.es_model.specs.declared.answers.Stop.TheVariants.{Halted, NoMemory}
@@ -25,6 +25,15 @@ outcome_left script d w = meaning script model d.stack.items d.state w
 -- steps enough are left for it
 abbrev pub HasStepsLeft : Tree → Dispatcher → World → Type 0
 HasStepsLeft script d w = HasSteps script model d.stack.items d.state d.left w
+
+-- how many steps are left
+abbrev pub steps_left : Dispatcher → ℕ
+steps_left d = d.left
+
+-- where a line is printed fewer steps are left than before, whatever the heap is
+abbrev pub StepsFall : ℕ → Result Event Stop → Type 0
+StepsFall left (Ok (Prints line d)) = steps_left d < left
+StepsFall left other = ⊤
 
 -- From a world and what is left of it: the next line is printed, and the rest is what is left then; or the end with its answer. At a halt the model
 -- halts, at this very turn. Up to there nothing is printed. Want of memory is free.

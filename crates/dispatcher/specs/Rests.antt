@@ -2,11 +2,13 @@
 use Rattle.es_tree.specs.Tree.{Tree}
 use Rattle.es_model.specs.Frames.{program_rest}
 use Rattle.es_model.specs.Unwinding.{Rest}
+use Rattle.evaluator.specs.Machine as evaluator
 use Rattle.ordinary_object.specs.Rests as ordinary
 use Rattle.plain_builtins.specs.Rests as plain
 use Rattle.dispatcher.specs.declared.frames.Frame.{Frame}
-use Rattle.dispatcher.specs.declared.frames.Frame.TheVariants.{Ordinary, Plain}
+use Rattle.dispatcher.specs.declared.frames.Frame.TheVariants.{Ordinary, Plain, Running}
 
 abbrev pub frame_rest : Tree → Rest Frame
 frame_rest script (Ordinary f) S n c w = program_rest ordinary.program_after f S n c w
 frame_rest script (Plain f) S n c w = program_rest plain.program_after f S n c w
+frame_rest script (Running f) S n c w = evaluator.eval_rest script f S n c w

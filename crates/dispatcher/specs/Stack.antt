@@ -7,15 +7,16 @@ use Rattle.es_model.specs.declared.answers.Stop.TheVariants.{Halted, NoMemory}
 use Rattle.es_model.specs.Changes.{printed_more}
 use Rattle.es_model.specs.Completions.{Completion, answered}
 use Rattle.es_model.specs.Outcomes.{requests_of}
-use Rattle.es_model.specs.Program.{Of, Outcome, Ended, Halt, Server}
+use Rattle.es_model.specs.Program.{Of, Outcome, Ended, Halt, Server, run}
 use Rattle.es_model.specs.Unwinding.{Nears, Reaches, Stays, unwind}
 use Rattle.es_model.specs.World.{World}
 use Rattle.es_model.specs.programs.Errors.{undefined}
+use Rattle.evaluator.specs.Functions.{script_program}
 use Rattle.object_heap.specs.Stands.{HeapView, Goes, Halts}
 use Rattle.es_serve.specs.Lines.{line_bytes}
 use Rattle.dispatcher.specs.declared.state.Entry.{Entry}
 use Rattle.dispatcher.specs.declared.state.State.{State}
-use Rattle.dispatcher.specs.declared.state.State.TheVariants.{Serving, Returning}
+use Rattle.dispatcher.specs.declared.state.State.TheVariants.{Starting, Serving, Returning}
 use Rattle.dispatcher.specs.declared.state.Next.{Next}
 use Rattle.dispatcher.specs.declared.state.Next.TheVariants.{GoOn, Prints, Ends}
 use Rattle.dispatcher.specs.Rests.{frame_rest}
@@ -25,14 +26,15 @@ use Rattle.dispatcher.specs.Rests.{frame_rest}
 abbrev pub entry_rest : Tree → Server → Entry → Completion → World → Outcome
 entry_rest script S e = frame_rest script e.frame S e.nested
 
--- what the request or the answer in hand comes to
-abbrev pub in_hand : Server → State → World → Outcome
-in_hand S (Serving q n) w = S n (Of q) w
-in_hand S (Returning c) w = Ended (answered c) w 0
+-- what the script, the request or the answer in hand comes to
+abbrev pub in_hand : Tree → Server → State → World → Outcome
+in_hand script S Starting w = run S (script_program script) 0 w
+in_hand script S (Serving q n) w = S n (Of q) w
+in_hand script S (Returning c) w = Ended (answered c) w 0
 
 -- the same with the frames that wait
 abbrev pub meaning : Tree → Server → List Entry → State → World → Outcome
-meaning script S stack state w = unwind (entry_rest script S) stack (in_hand S state w)
+meaning script S stack state w = unwind (entry_rest script S) stack (in_hand script S state w)
 
 -- once a line is printed, undefined is the answer
 abbrev pub line_printed : List Value → World → Outcome
@@ -40,6 +42,7 @@ line_printed line w = Ended undefined (printed_more w (line_bytes w.lists line))
 
 -- how many steps are left until what is in hand has gone through the frames that wait, if none asks
 abbrev pub height : List Entry → State → ℕ
+height stack Starting = length stack + 2
 height stack (Serving q n) = length stack + 2
 height stack (Returning c) = length stack + 1
 

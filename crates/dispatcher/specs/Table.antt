@@ -1,9 +1,10 @@
 -- Who serves what.
-use Rattle.std.specs.Prelude.{◌≡◌, ℕ, if◌then◌else◌, Option, Some, None}
+use Rattle.std.specs.Prelude.{◌≡◌, ℕ, if◌then◌else◌, List, Option, Some, None}
 use Rattle.property_keys.specs.declared.identifiers.ObjectId.{ObjectId}
 use Rattle.property_keys.specs.declared.keys.PropKey.{PropKey}
 use Rattle.property_keys.specs.declared.values.Value.{Value}
 use Rattle.property_keys.specs.declared.values.Value.TheVariants as value
+use Rattle.es_tree.specs.declared.numbers.FunctionNo.{FunctionNo}
 use Rattle.es_tree.specs.declared.numbers.SiteId.{SiteId}
 use Rattle.es_tree.specs.Tree.{Tree}
 use Rattle.es_model.specs.declared.kinds.ObjectKind.{ObjectKind}
@@ -16,12 +17,13 @@ use Rattle.es_model.specs.Events.{Way, Reads, Writes, class_of}
 use Rattle.es_model.specs.Program.{Program, Server, run}
 use Rattle.es_model.specs.World.{Lists, World, kind}
 use Rattle.es_model.specs.programs.Errors.{entering, unwritten}
+use Rattle.evaluator.specs.Functions as functions
 use Rattle.ordinary_object.specs.Ordinary.{ordinary_program}
 use Rattle.plain_builtins.specs.Plain.{plain_program}
 use Rattle.es_serve.specs.Lines.{print_line}
 use Rattle.es_serve.specs.Serve.{is_counted, request_program}
 use Rattle.dispatcher.specs.declared.table.Provider.{Provider}
-use Rattle.dispatcher.specs.declared.table.Provider.TheVariants.{Ordinary, Plain, Unwritten}
+use Rattle.dispatcher.specs.declared.table.Provider.TheVariants.{Ordinary, Plain, Running, Unwritten}
 use Rattle.dispatcher.specs.declared.table.Service.{Service}
 use Rattle.dispatcher.specs.declared.table.Service.TheVariants.{Begins, Enters, Prints}
 
@@ -35,7 +37,7 @@ method_service other = Begins Ordinary
 
 -- a call, by the kind of the function. What cannot be called goes to `plain_builtins`, which throws
 abbrev pub call_service : ObjectKind → Service
-call_service (kind_of.Function function constructor strict) = Enters Unwritten
+call_service (kind_of.Function function constructor strict) = Enters (Running function)
 call_service (kind_of.Builtin row constructor proxy) = Enters Plain
 call_service (kind_of.Proxy target handler callable constructor) = if callable then Enters Unwritten else Begins Plain
 call_service other = Begins Plain
@@ -70,9 +72,19 @@ served_by l (Print line) = Prints
 
 -- ---- what each service does. The tree is that of the script that runs
 
+-- the body of a function of the script. No other value comes here, and no other request
+abbrev pub called_program : Tree → FunctionNo → Value → Value → List Value → Program
+called_program script function (value.Object f) this arguments = functions.call_program script function f this arguments
+called_program script function other this arguments = unwritten
+
+abbrev pub body_program : Tree → FunctionNo → Request → Program
+body_program script function (Call f this arguments) = called_program script function f this arguments
+body_program script function other = unwritten
+
 abbrev pub begin_program : Tree → Provider → Request → Program
 begin_program script Ordinary q = ordinary_program q
 begin_program script Plain q = plain_program q
+begin_program script (Running function) q = body_program script function q
 begin_program script Unwritten q = unwritten
 
 -- the dispatcher prints a line itself. No other request comes here

@@ -15,8 +15,9 @@ ghost use Rattle.dispatcher.specs.Stack.{Leads, entry_rest};
 ghost use Rattle.dispatcher.specs.Table.{begin_program, print_program};
 ghost use Rattle.dispatcher.specs.declared.state.Entry.{Entry as Waiting};
 
+use crate::bodies::begin_body;
 use crate::errors::too_many_calls;
-use crate::frames::{Frame, of_ordinary, of_plain};
+use crate::frames::{Frame, of_ordinary, of_plain, of_running};
 use crate::noting::note;
 use crate::stack::take;
 use crate::state::{Entry, Next, State};
@@ -44,6 +45,9 @@ fn begin<L: Ledger>(
     match provider {
         Provider::Ordinary => of_ordinary(ordinary_object::start(alloc, heap, &request, steps)),
         Provider::Plain => of_plain(plain_builtins::start(alloc, heap, &request, steps)),
+        Provider::Running(function) => {
+            of_running(begin_body(heap, script, function, request, steps))
+        }
         Provider::Unwritten => Ok(Turn::Done(Completion::Throw(Value::Undefined))),
     }
 }

@@ -10,12 +10,14 @@ ghost use Rattle.es_model.specs.World.{World};
 ghost use Rattle.es_serve.specs.Serve.{program_of};
 ghost use Rattle.object_heap.specs.Stands.{HeapView, StandsFor};
 ghost use Rattle.object_heap.specs.Turns.{IsTurnOf};
+ghost use Rattle.evaluator.specs.Machine.{eval_rest};
 ghost use Rattle.ordinary_object.specs.Rests.{program_after as after_ordinary};
 ghost use Rattle.plain_builtins.specs.Rests.{program_after as after_plain};
 ghost use Rattle.dispatcher.specs.Rests.{frame_rest};
 
 use es_model::{Completion, Stop, Turn};
 use es_tree::Checked;
+use evaluator::EvalFrame;
 use object_heap::Heap;
 use ordinary_object::OrdinaryFrame;
 use plain_builtins::PlainFrame;
@@ -27,6 +29,7 @@ use std::alloc::Global;
 pub(crate) enum Frame {
     Ordinary(OrdinaryFrame),
     Plain(PlainFrame),
+    Running(EvalFrame),
 }
 
 pub(crate) fn of_ordinary(turn: Result<Turn<OrdinaryFrame>, Stop>) -> Result<Turn<Frame>, Stop>
@@ -49,6 +52,16 @@ pub(crate) fn of_plain(turn: Result<Turn<PlainFrame>, Stop>) -> Result<Turn<Fram
     }
 }
 
+pub(crate) fn of_running(turn: Result<Turn<EvalFrame>, Stop>) -> Result<Turn<Frame>, Stop>
+    ensures { (script : Tree) (old new : HeapView) (w : World) (S : Server) (n : ℕ) (o : Outcome) → IsTurnOf (eval_rest script) old new w S n o turn → IsTurnOf (frame_rest script) old new w S n o result }
+{
+    match turn {
+        Ok(Turn::Ask(request, frame)) => Ok(Turn::Ask(request, Frame::Running(frame))),
+        Ok(Turn::Done(answer)) => Ok(Turn::Done(answer)),
+        Err(stop) => Err(stop),
+    }
+}
+
 /// The next turn of a frame.
 pub(crate) fn resume<L: Ledger>(
     alloc: Global,
@@ -65,5 +78,8 @@ pub(crate) fn resume<L: Ledger>(
             of_ordinary(ordinary_object::resume(alloc, heap, frame, answer, steps))
         }
         Frame::Plain(frame) => of_plain(plain_builtins::resume(alloc, heap, frame, answer, steps)),
+        Frame::Running(frame) => {
+            of_running(evaluator::resume(heap, script, frame, answer, steps))
+        }
     }
 }

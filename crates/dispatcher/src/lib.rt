@@ -3,6 +3,7 @@
 //! `table.rt` says who serves what, `frames.rt` has the frames of all crates. Nothing else names a crate of frames but `entering.rt`, which begins what is served.
 #![tactic(auto, using(object_heap::specs::Stands::goes_none, object_heap::specs::Stands::goes_then, object_heap::specs::Stands::halts_at))]
 
+mod bodies;
 mod countdown;
 mod dispatching;
 mod entering;

@@ -10,9 +10,11 @@ pub(crate) struct Entry {
     pub(crate) nested: u32,
 }
 
-/// What is in hand: a request, with the number of calls that are running, or an answer.
+/// What is in hand: the script itself, a request with the number of calls that are running, or an answer.
 #[derive(Drop)]
 pub(crate) enum State {
+    /// The script has not begun, and no call is running.
+    Starting,
     Serving(Request, u32),
     Returning(Completion),
 }

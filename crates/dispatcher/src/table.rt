@@ -6,6 +6,7 @@ ghost use Rattle.object_heap.specs.Stands.{StandsFor};
 ghost use Rattle.dispatcher.specs.Table.{call_service, callee_service, construct_service, method_service, served_by};
 
 use es_model::{ObjectKind, Request};
+use es_tree::FunctionNo;
 use object_heap::Heap;
 use property_keys::Value;
 
@@ -16,6 +17,8 @@ pub(crate) enum Provider {
     Ordinary,
     /// `plain_builtins`
     Plain,
+    /// `evaluator`, with the function whose body runs
+    Running(FunctionNo),
     /// Nowhere yet: undefined is thrown.
     Unwritten,
 }
@@ -51,7 +54,7 @@ fn call_service(kind: &ObjectKind) -> Service
     ensures { result ≡ call_service kind.now }
 {
     match kind {
-        ObjectKind::Function { .. } => Service::Enters(Provider::Unwritten),
+        ObjectKind::Function { function, .. } => Service::Enters(Provider::Running(*function)),
         ObjectKind::Builtin { .. } => Service::Enters(Provider::Plain),
         ObjectKind::Proxy { callable, .. } => {
             if *callable {

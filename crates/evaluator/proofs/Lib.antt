@@ -30,3 +30,4 @@ pub mod TasksKept
 pub mod TasksWithin
 pub mod WordsKept
 pub mod WordsWithin
+pub mod Served

@@ -6,6 +6,7 @@ use Rattle.ordinary_object.specs.Ordinary.{ordinary_program}
 use Rattle.ordinary_object.specs.Rests as ordinary
 use Rattle.plain_builtins.specs.Plain.{plain_program}
 use Rattle.plain_builtins.specs.Rests as plain
+use Rattle.dispatcher.specs.Table.{body_program}
 use Rattle.dispatcher.proofs.entering.begin.Goals as goal
 
 pub returns-in-Ordinary : goal.returns-in-Ordinary
@@ -20,5 +21,8 @@ returns-in-Plain g c = λ S n w is same h.
     (c.of_plain.ensures c.args.script.now c.args.heap.now c.start-in-Plain.new.heap w S n (run S (plain_program c.args.request) n w)
     (stops_turn_of plain.program_after (plain_program c.args.request) c.args.heap.now c.start-in-Plain.new.heap w c.start-in-Plain.result (c.start-in-Plain.ensures.stops w h) S n))
 
-pub returns : goal.returns
-returns g c = λ S n w is same h. rw c.in-Unwritten.is (w, goes_none c.args.heap.now w h, stays_none w, reaches_none _)
+pub returns-in-Running : goal.returns-in-Running
+returns-in-Running g c = λ S n w is same h.
+    rw c.in-Running.is
+    (c.of_running.ensures c.args.script.now c.args.heap.now c.begin_body.new.heap w S n (run S (body_program c.args.script.now c.in-Running.function c.args.request) n w)
+    (c.begin_body.ensures S n w is same h))

@@ -1,11 +1,11 @@
-use Rattle.std.proofs.Common.{◌∙◌, ap}
+use Rattle.std.proofs.Common.{◌∙◌, ap, refl}
 use Rattle.es_model.specs.Program.{Of}
 use Rattle.es_model.specs.Unwinding.{unwind}
 use Rattle.es_model.proofs.Unwound.{unwind-none}
 use Rattle.es_serve.specs.Serve.{model}
-use Rattle.es_serve.proofs.Models.{thrifty}
+use Rattle.dispatcher.specs.declared.state.State.TheVariants.{Serving}
 use Rattle.dispatcher.specs.Stack.{entry_rest, steps_for}
-use Rattle.dispatcher.proofs.Loops.{steps_first}
+use Rattle.dispatcher.proofs.Loops.{request_paid, steps_first}
 use Rattle.dispatcher.proofs.dispatching.Dispatcher.new.Goals as goal
 
 pub returns-clause-left : goal.returns-clause-left
@@ -14,5 +14,5 @@ returns-clause-left c = λ w.
 
 pub returns-clause-steps : goal.returns-clause-steps
 returns-clause-steps c = λ w same h.
-    steps_first c.args.script.now model c.new.result.items c.args.request c.left-turns.result c.new-2.result w thrifty c.new.ensures.items same
+    steps_first c.args.script.now model c.new.result.items (Serving c.args.request 0) c.left-turns.result c.new-2.result w (request_paid c.args.script.now c.args.request w) refl c.new.ensures.items same
     (c.left-turns.ensures ∙ c.turns_ref.ensures w h) (c.new-2.ensures ∙ ap (λ d. steps_for c.left-turns.result d) c.most_definitions.ensures)
