@@ -1,5 +1,5 @@
 -- The names of a declaration, one after another, over plain variables.
-use Rattle.std.proofs.Common.{◌≡◌, ℕ, true, Option, Some, None, List, [], ◌∷◌, drop, length, nat_le, Result, Ok, Err, refl, sym, ◌∙◌, ap, subst}
+use Rattle.std.proofs.Common.{◌≡◌, ℕ, true, Some, None, List, [], ◌∷◌, drop, length, nat_le, Result, Ok, Err, refl, sym, ◌∙◌, ap, subst}
 use Rattle.property_keys.specs.declared.identifiers.TextId.{TextId}
 use Rattle.property_keys.specs.declared.values.Value.{Value}
 use Rattle.property_keys.specs.declared.values.Value.TheVariants as value
@@ -11,8 +11,8 @@ use Rattle.es_model.specs.declared.kinds.CellNo.{CellNo}
 use Rattle.es_model.specs.Completions.{Completion}
 use Rattle.es_model.specs.World.{World, number_of}
 use Rattle.es_model.specs.Changes.{Interning, SettingCell, changed}
-use Rattle.es_model.specs.Program.{Evaluating, Program}
-use Rattle.es_model.specs.Stages.{AtPart, Stage, stage_of}
+use Rattle.es_model.specs.Program.{Program}
+use Rattle.es_model.specs.Stages.{stage_of}
 use Rattle.es_model.specs.programs.Abrupt.{go_on, taken, then_value, value_in}
 use Rattle.object_heap.specs.Stands.{HeapView, StandsFor, Goes, goes_none, goes_then}
 use Rattle.evaluator.specs.declared.items.Ending.{Ending}
@@ -23,7 +23,7 @@ use Rattle.evaluator.specs.declared.items.Plan.{Plan}
 use Rattle.evaluator.specs.declared.items.Plan.TheVariants as plan
 use Rattle.evaluator.specs.declared.items.StatementItem.TheVariants as statement
 use Rattle.evaluator.specs.Contexts.{Context, evaluate_named}
-use Rattle.evaluator.specs.Plans.{Plans, ended, item_program}
+use Rattle.evaluator.specs.Plans.{Plans, ended}
 use Rattle.evaluator.specs.Scopes.{bound_cell, initialise}
 use Rattle.evaluator.specs.Statements.{declare_all, declare_first, declared_at, declared_valued}
 use Rattle.evaluator.proofs.Joining.{text_stage}

@@ -1,5 +1,5 @@
 -- Texts and their keys, over plain variables.
-use Rattle.std.proofs.Common.{◌≡◌, ◌&&◌, ℕ, Bool, true, cond, Option, Some, None, List, [], ◌∷◌, ◌+◌, ◌++◌, length, nat_le, is_some, sym, ◌∙◌, ap, lit<}
+use Rattle.std.proofs.Common.{◌≡◌, ◌&&◌, ℕ, Bool, true, cond, Option, Some, None, List, [], ◌+◌, ◌++◌, length, nat_le, is_some, sym, ◌∙◌, ap, lit<}
 use Rattle.std.proofs.lemmas.Fmt.{decimal_digit}
 use Rattle.std.specs.Option.{option_map_or}
 use Rattle.std.specs.Str.{bytes_eq}

@@ -2,6 +2,7 @@ pub mod AccessesKept
 pub mod AccessesWithin
 pub mod AssignmentsKept
 pub mod AssignmentsWithin
+pub mod Belonging
 pub mod Bounded
 pub mod CallsKept
 pub mod CallsWithin
@@ -20,6 +21,7 @@ pub mod Naming
 pub mod OperatorsKept
 pub mod OperatorsWithin
 pub mod Planned
+pub mod PlansNamed
 pub mod ReferencesKept
 pub mod ReferencesWithin
 pub mod Sounding

@@ -144,7 +144,7 @@ properties-kept w here o [] s h there = done-kept w _ s there
 properties-kept w here o (p ∷ ps) s h there =
     property_then-kept w here o p (properties_from here o ps) s h there (λ v sv l. properties-kept v here o ps sv (here-stays w v l here h) (object-stays w v l o there))
 
-object-there : (w : World) (origin : Origin) (p : Option ObjectId) → IsObject (changed (Making kind_of.Ordinary origin p) w).lists (new_object w.lists)
+pub object-there : (w : World) (origin : Origin) (p : Option ObjectId) → IsObject (changed (Making kind_of.Ordinary origin p) w).lists (new_object w.lists)
 unfolding changed made
 object-there w origin p =
     let n = length-append w.lists.objects (new_object_of kind_of.Ordinary p ∷ []) in

@@ -1,5 +1,5 @@
 -- Names of functions are put together, over plain variables.
-use Rattle.std.proofs.Common.{◌≡◌, ◌≤◌, ◌<◌, ℕ, Bool, true, false, suc, Option, Some, None, List, [], ◌∷◌, ◌+◌, ◌++◌, length, length-append, nat_le, is_some, take, sym, ◌∙◌, ap, arith, append_assoc, cond, refl}
+use Rattle.std.proofs.Common.{◌≡◌, ◌≤◌, ◌<◌, ℕ, Bool, true, false, Option, Some, None, List, [], ◌+◌, ◌++◌, length, length-append, nat_le, is_some, take, sym, ◌∙◌, ap, arith, append_assoc, cond, refl}
 use Rattle.std.proofs.lemmas.Bool.{false≢true}
 use Rattle.std.proofs.lemmas.Bool.Decides.{nat_tests}
 use Rattle.std.proofs.lemmas.List.{append-nil, length-take-le, take_all}

@@ -133,7 +133,7 @@ remainder-whole : (a b : ℤ) (zero : Bool) → IfThere IsWhole (cond zero None 
 remainder-whole a b true = tt
 remainder-whole a b false = whole-known (int_rem a b)
 
-calculate-whole : (op : Arithmetic) (a b : ℤ) → IfThere IsWhole (calculate op a b)
+pub calculate-whole : (op : Arithmetic) (a b : ℤ) → IfThere IsWhole (calculate op a b)
 calculate-whole arithmetic.Add a b = whole-known (a +ℤ b)
 calculate-whole arithmetic.Subtract a b = whole-known (a -ℤ b)
 calculate-whole arithmetic.Multiply a b = whole-known (a *ℤ b)

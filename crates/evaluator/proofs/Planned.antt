@@ -1,5 +1,5 @@
 -- Plans, over plain variables.
-use Rattle.std.proofs.Common.{◌≡◌, ℕ, zero, suc, Bool, true, cond, nat_le, Option, Some, None, List, [], ◌∷◌, ◌++◌, length, take, slice_get, unwrap_or, Result, Ok, Err, OnOk, refl, sym, ◌∙◌, ap, subst}
+use Rattle.std.proofs.Common.{◌≡◌, ℕ, zero, suc, Bool, true, cond, nat_le, Some, None, List, [], ◌∷◌, ◌++◌, length, take, slice_get, unwrap_or, Result, Ok, Err, OnOk, refl, sym, ◌∙◌, ap, subst}
 use Rattle.std.proofs.Math.Seq.{take-length}
 use Rattle.std.specs.List.{AllByRecursion}
 use Rattle.property_keys.specs.declared.values.Value.{Value}

@@ -167,7 +167,7 @@ put_of-kept w here (value.Object o) k site x result s known key there given =
 
 -- ---- GetValue
 
-cell_in-known : (l : Lists) (cs : List (Option Value)) (i : ℕ) → AllByRecursion (IfThere (IsKnown l)) cs → IfThere (IsKnown l) (cell_in (slice_get cs i))
+pub cell_in-known : (l : Lists) (cs : List (Option Value)) (i : ℕ) → AllByRecursion (IfThere (IsKnown l)) cs → IfThere (IsKnown l) (cell_in (slice_get cs i))
 cell_in-known l [] i h = tt
 cell_in-known l (c ∷ cs) zero h = h.0
 cell_in-known l (c ∷ cs) (suc i) h = cell_in-known l cs i h.1

@@ -303,6 +303,14 @@ made-ends : (here : Context) (ds : List DeclaredFunction) (w : World) → EndsBo
 made-ends here [] w = tt
 made-ends here (d ∷ ds) w = made-first d.is_last (declare_functions here ds unwritten) w (made-ends here ds w)
 
+-- the world in which the statements begin is sound
+pub script_ready : (script : Tree) (b c : HeapView) (w : World) → w.script ≡ script → IsSound w → Declares (top_of script w) script.script.declared b c (world_with (top_names script) w) (Ok None) →
+    IsSound (world_with (top_names script) w) × ((world_with (top_names script) w).script ≡ script)
+script_ready script b c w same sound declares =
+    let v : World = world_with (top_names script) w in
+    let at : stage_of (script_program script) w ≡ AtPart (Statements (script_body script) [] part_of.Script 0) body_ended v = script-stage script w ∙ ap (λ p. stage_of p v) (declares.1 (rest_of script)) in
+    let s = script-stopped script w _ same sound at in (s.1.0, s.0.script ∙ same)
+
 pub script_begins_sound : (script : Tree) (a b c d : HeapView) (w : World) (result : Result (Turn EvalFrame) Stop) → w.script ≡ script → IsSound w → Goes a b w (world_with (top_names script) w) →
     Declares (top_of script w) script.script.declared b c (world_with (top_names script) w) (Ok None) →
     ((v : World) → v.script ≡ script → StandsFor c v → IsSound v → StaysSoundTurn script c d v result) → StaysSoundTurn script a d w result

@@ -37,7 +37,7 @@ use Rattle.evaluator.proofs.WordsKept.{Keeps, done-kept, look-kept, change-kept,
 
 -- ---- scopes
 
-cell-there : (w : World) (x : Option Value) → IsCell (changed (MakingCell x) w).lists (new_cell w.lists)
+pub cell-there : (w : World) (x : Option Value) → IsCell (changed (MakingCell x) w).lists (new_cell w.lists)
 unfolding changed cell_made
 cell-there w x = let n = length-append w.lists.cells (x ∷ []) in omega arith
 

@@ -1,6 +1,6 @@
 -- Member accesses (ECMA-262, 13.3.2) and what is assigned to or updated: an access is evaluated to a reference. Its base comes first, then its key, which is
 -- converted at once; the base is looked at when the property is read or written.
-use Rattle.std.specs.Prelude.{Option, Some, None}
+use Rattle.std.specs.Prelude.{Option, Some}
 use Rattle.property_keys.specs.declared.keys.PropKey.{PropKey}
 use Rattle.property_keys.specs.declared.values.Value.{Value}
 use Rattle.es_tree.specs.declared.expressions.Access.{Access}

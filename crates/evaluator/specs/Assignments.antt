@@ -1,5 +1,5 @@
 -- Assignments (ECMA-262, 13.15) and updates (13.4): the target is evaluated to a reference, a value is got from it where it is read, and one is put into it.
-use Rattle.std.specs.Prelude.{Bool, true, false, if◌then◌else◌, ℤ, pos, ◌+ℤ◌, ◌-ℤ◌, List, [], ◌∷◌}
+use Rattle.std.specs.Prelude.{Bool, if◌then◌else◌, ℤ, pos, ◌+ℤ◌, ◌-ℤ◌}
 use Rattle.property_keys.specs.declared.values.Value.{Value}
 use Rattle.property_keys.specs.declared.values.Value.TheVariants as value
 use Rattle.es_tree.specs.declared.expressions.AssignOperator.{AssignOperator}

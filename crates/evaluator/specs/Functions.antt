@@ -1,5 +1,5 @@
 -- Functions of the script: how one is made, and what its body does once it is entered. They are not written yet.
-use Rattle.std.specs.Prelude.{ℕ, Bool, false, if◌then◌else◌, Option, Some, None, List, [], ◌∷◌}
+use Rattle.std.specs.Prelude.{if◌then◌else◌, Option, None, List, [], ◌∷◌}
 use Rattle.property_keys.specs.declared.identifiers.ObjectId.{ObjectId}
 use Rattle.property_keys.specs.declared.identifiers.TextId.{TextId}
 use Rattle.property_keys.specs.declared.values.Value.{Value}
@@ -9,7 +9,7 @@ use Rattle.es_tree.specs.declared.numbers.FunctionNo.{FunctionNo}
 use Rattle.es_tree.specs.Tree.{Tree, top_names}
 use Rattle.es_model.specs.declared.running.Part.TheVariants as part_of
 use Rattle.es_model.specs.declared.running.Running.{Running}
-use Rattle.es_model.specs.Completions.{Completion, Normal, Return, Throw}
+use Rattle.es_model.specs.Completions.{Completion, Return, Throw}
 use Rattle.es_model.specs.Program.{Program, done, charge, part, Statements}
 use Rattle.es_model.specs.programs.Errors.{undefined, unwritten}
 use Rattle.evaluator.specs.Contexts.{Context, context, normal}

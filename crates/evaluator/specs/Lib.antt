@@ -8,6 +8,7 @@ pub mod Functions
 pub mod Lists
 pub mod Literals
 pub mod Machine
+pub mod Names
 pub mod Operators
 pub mod Plans
 pub mod References

@@ -1,10 +1,9 @@
 -- Primary expressions (ECMA-262, 13.2): names, literals, object literals.
-use Rattle.std.specs.Prelude.{ℕ, ◌++◌, Bool, true, false, if◌then◌else◌, ◌&&◌, nat_eq, suc, Option, Some, None, List, [], ◌∷◌, codes, slice_get}
+use Rattle.std.specs.Prelude.{ℕ, ◌++◌, Bool, true, false, if◌then◌else◌, suc, Option, Some, None, List, [], ◌∷◌, codes, slice_get}
 use Rattle.property_keys.specs.declared.identifiers.ObjectId.{ObjectId}
-use Rattle.property_keys.specs.declared.identifiers.SymbolId.{SymbolId}
 use Rattle.property_keys.specs.declared.identifiers.TextId.{TextId}
 use Rattle.property_keys.specs.declared.keys.PropKey.{PropKey}
-use Rattle.property_keys.specs.declared.keys.PropKey.TheVariants.{Index, Name, Sym}
+use Rattle.property_keys.specs.declared.keys.PropKey.TheVariants.{Sym}
 use Rattle.property_keys.specs.declared.values.Value.{Value}
 use Rattle.property_keys.specs.declared.values.Value.TheVariants as value
 use Rattle.property_keys.specs.Keys.{text_of_key}
@@ -15,7 +14,6 @@ use Rattle.es_tree.specs.declared.facts.LiteralFacts.{LiteralFacts}
 use Rattle.es_tree.specs.declared.names.Named.{Named}
 use Rattle.es_tree.specs.declared.node.Node.{Node}
 use Rattle.es_tree.specs.declared.node.Node.TheVariants as node
-use Rattle.es_tree.specs.declared.numbers.FunctionNo.{FunctionNo}
 use Rattle.es_tree.specs.declared.numbers.LiteralNo.{LiteralNo}
 use Rattle.es_tree.specs.declared.numbers.NodeId.{NodeId}
 use Rattle.es_tree.specs.declared.primaries.Key.{Key}
@@ -32,7 +30,7 @@ use Rattle.es_model.specs.declared.requests.Request.TheVariants.{SetProto}
 use Rattle.es_model.specs.Completions.{Completion}
 use Rattle.es_model.specs.Events.{Origin, OfLiteral}
 use Rattle.es_model.specs.World.{Lists, description, units_of}
-use Rattle.es_model.specs.Program.{Program, done, look, ask, define, intern, make}
+use Rattle.es_model.specs.Program.{Program, look, ask, define, make}
 use Rattle.es_model.specs.programs.Abrupt.{then_flag, then_key, then_value}
 use Rattle.es_model.specs.programs.Errors.{unwritten}
 use Rattle.evaluator.specs.Accesses.{read_reference}

@@ -1,5 +1,5 @@
 -- Operators (ECMA-262, 13.5 to 13.14 and 13.16).
-use Rattle.std.specs.Prelude.{ℕ, ℤ, Bool, true, false, not, ◌||◌, if◌then◌else◌, neg_ℤ, Option, Some, None, List, [], ◌∷◌}
+use Rattle.std.specs.Prelude.{Bool, true, false, not, ◌||◌, if◌then◌else◌, neg_ℤ, Option, Some, List, [], ◌∷◌}
 use Rattle.property_keys.specs.declared.identifiers.ObjectId.{ObjectId}
 use Rattle.property_keys.specs.declared.values.Value.{Value}
 use Rattle.property_keys.specs.declared.values.Value.TheVariants as value
@@ -7,24 +7,20 @@ use Rattle.property_keys.specs.Values.{same_value}
 use Rattle.es_tree.specs.declared.expressions.Access.TheVariants as access
 use Rattle.es_tree.specs.declared.expressions.BinaryOperator.{BinaryOperator}
 use Rattle.es_tree.specs.declared.expressions.BinaryOperator.TheVariants as binary_operator
-use Rattle.es_tree.specs.declared.expressions.Operator.{Operator}
 use Rattle.es_tree.specs.declared.expressions.Operator.TheVariants as operator
 use Rattle.es_tree.specs.declared.expressions.ShortOperator.{ShortOperator}
 use Rattle.es_tree.specs.declared.expressions.ShortOperator.TheVariants as short_operator
 use Rattle.es_tree.specs.declared.expressions.UnaryOperator.{UnaryOperator}
 use Rattle.es_tree.specs.declared.expressions.UnaryOperator.TheVariants as unary_operator
-use Rattle.es_tree.specs.declared.names.Binding.TheVariants as binding
-use Rattle.es_tree.specs.declared.names.Named.{Named}
 use Rattle.es_tree.specs.declared.node.Node.{Node}
 use Rattle.es_tree.specs.declared.node.Node.TheVariants as node
 use Rattle.es_tree.specs.declared.numbers.NodeId.{NodeId}
 use Rattle.es_tree.specs.declared.primaries.Primary.TheVariants as primary
-use Rattle.es_model.specs.declared.requests.Operation.{Operation}
 use Rattle.es_model.specs.declared.requests.Operation.TheVariants as operation
 use Rattle.es_model.specs.declared.requests.Request.TheVariants.{Has, Work}
 use Rattle.es_model.specs.Completions.{Completion}
 use Rattle.es_model.specs.World.{Lists}
-use Rattle.es_model.specs.Program.{Program, done, look, charge, ask, intern}
+use Rattle.es_model.specs.Program.{Program, look, charge, ask, intern}
 use Rattle.es_model.specs.programs.Abrupt.{then_flag, then_key, then_value}
 use Rattle.es_model.specs.programs.Errors.{unfit}
 use Rattle.evaluator.specs.declared.references.Arithmetic.{Arithmetic}
@@ -34,7 +30,7 @@ use Rattle.evaluator.specs.declared.references.Finish.TheVariants as finish
 use Rattle.evaluator.specs.declared.references.Reference.{Reference}
 use Rattle.evaluator.specs.declared.references.Reference.TheVariants as reference
 use Rattle.evaluator.specs.Accesses.{access_reference}
-use Rattle.evaluator.specs.Contexts.{Context, convert, evaluate, evaluate_last, given, gives, node_at, normal}
+use Rattle.evaluator.specs.Contexts.{Context, convert, evaluate, evaluate_last, given, gives, node_at}
 use Rattle.evaluator.specs.Errors.{join, not_an_object}
 use Rattle.evaluator.specs.References.{delete_reference, get_value, put_value, resolve}
 use Rattle.es_model.specs.programs.Testing.{is_truth}

@@ -17,7 +17,7 @@ use Rattle.es_model.specs.declared.kinds.CellNo.{CellNo}
 use Rattle.es_model.specs.declared.requests.Request.TheVariants.{Has, Read, Write, Delete}
 use Rattle.es_model.specs.Completions.{Completion}
 use Rattle.es_model.specs.StartObjects.{object_of}
-use Rattle.es_model.specs.World.{Lists, cell, units_of}
+use Rattle.es_model.specs.World.{cell, units_of}
 use Rattle.es_model.specs.Changes.{SettingCell}
 use Rattle.es_model.specs.Program.{Program, look, change, charge, ask, intern}
 use Rattle.es_model.specs.programs.Abrupt.{then_flag}

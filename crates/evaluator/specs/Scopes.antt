@@ -1,7 +1,6 @@
 -- The cells of the names of a scope (ECMA-262, 9.1, 14.2.3), made in the order in which the standard makes bindings.
 use Rattle.std.specs.Prelude.{ℕ, zero, suc, Option, Some, None, List, [], ◌∷◌, ◌++◌}
 use Rattle.property_keys.specs.declared.values.Value.{Value}
-use Rattle.property_keys.specs.declared.values.Value.TheVariants as value
 use Rattle.es_tree.specs.declared.names.Binding.{Binding}
 use Rattle.es_tree.specs.declared.names.Binding.TheVariants as binding
 use Rattle.es_tree.specs.declared.names.Named.{Named}

@@ -17,9 +17,9 @@ use Rattle.es_model.specs.Program.{Program, charge}
 use Rattle.evaluator.specs.Accesses.{access_reference, read_reference, target_reference}
 use Rattle.evaluator.specs.Assignments.{assignment, update_reference}
 use Rattle.evaluator.specs.Calls.{call_expression, new_expression}
-use Rattle.evaluator.specs.Contexts.{Context, context, evaluate, falls, node_at}
+use Rattle.evaluator.specs.Contexts.{Context, context, evaluate, falls}
 use Rattle.evaluator.specs.Literals.{primary_program}
-use Rattle.evaluator.specs.Operators.{comma_at, comma_from, left_valued, short_valued, test_valued, unary_expression}
+use Rattle.evaluator.specs.Operators.{comma_from, left_valued, short_valued, test_valued, unary_expression}
 use Rattle.evaluator.specs.Statements.{round_of, statement_at, statement_program, statements_of}
 
 abbrev pub operator_program : Context → NodeId → Operator → Program

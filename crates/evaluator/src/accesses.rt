@@ -12,6 +12,14 @@ ghost use Rattle.evaluator.specs.declared.references.Reference.TheVariants as re
 ghost use Rattle.evaluator.specs.Plans.{PlansAt, access_valued, purpose_program};
 ghost use Rattle.evaluator.specs.References.{name_of, resolve, resolve_bound};
 ghost use Rattle.object_heap.specs.Retains.{Retains};
+ghost use Rattle.es_model.specs.World.{World};
+ghost use Rattle.object_heap.specs.Stands.{StandsFor};
+ghost use Rattle.es_model.specs.Sound.{IsSound};
+ghost use Rattle.es_model.specs.Known.{IsKnown, IsText};
+ghost use Rattle.es_tree.specs.Tree.{IsSite, NamesSites, NamesKnown};
+ghost use Rattle.es_model.specs.Belongs.{HasNames};
+ghost use Rattle.es_model.specs.Kept.{IsKnownRunning};
+ghost use Rattle.evaluator.specs.Names.{NamesPlan, names_of_access, names_of_reference};
 
 use crate::calls::callee_reference;
 use crate::cells::Cells;
@@ -54,6 +62,7 @@ pub(crate) fn purpose_plan<L: Ledger>(
     steps: &mut Steps<L>,
 ) -> Result<Plan, Stop>
     ensures plans { PlansAt script.now body cells.now heap.old heap.new (λ here. purpose_program here purpose reference) result }
+    ensures named { (w v : World) → StandsFor heap.old w → IsSound w → StandsFor heap.new v → HasNames script.now v.lists (names_of_reference reference) → NamesPlan script.now v.lists result }
     ensures retains { Retains heap.old heap.new }
 {
     match purpose {
@@ -110,6 +119,7 @@ fn resolve_bound<L: Ledger>(
     steps: &mut Steps<L>,
 ) -> Result<Plan, Stop>
     ensures plans { PlansAt script.now body cells.now heap.old heap.new (λ here. resolve_bound here name binding (purpose_program here purpose)) result }
+    ensures named { (w v : World) → StandsFor heap.old w → IsSound w → StandsFor heap.new v → IsText v.lists name → IsKnownRunning script.now v.lists body → NamesPlan script.now v.lists result }
     ensures retains { Retains heap.old heap.new }
 {
     match binding {
@@ -144,7 +154,7 @@ fn resolve_bound<L: Ledger>(
 }
 
 /// ResolveBinding (9.4.2), and what is done with the reference.
-#[tactic(auto, using(object_heap::specs::Stands::goes_none, object_heap::specs::Stands::goes_then, object_heap::specs::Stands::halts_at, object_heap::proofs::Retaining::retains_none, object_heap::proofs::Retaining::retains_then, crate::proofs::Planned::plans_then))]
+#[tactic(auto, using(object_heap::specs::Stands::goes_none, object_heap::specs::Stands::goes_then, object_heap::specs::Stands::halts_at, object_heap::proofs::Retaining::retains_none, object_heap::proofs::Retaining::retains_then, crate::proofs::PlansNamed::keeps_wait, crate::proofs::PlansNamed::keeps_enter, crate::proofs::PlansNamed::keeps_ask, crate::proofs::PlansNamed::keeps_last, crate::proofs::PlansNamed::keeps_end, crate::proofs::PlansNamed::keeps_stop, crate::proofs::PlansNamed::defines_plan, crate::proofs::PlansNamed::defines_none, crate::proofs::PlansNamed::defines_stop, crate::proofs::Planned::plans_then))]
 pub(crate) fn resolve<L: Ledger>(
     heap: &mut Heap,
     script: &Checked,
@@ -155,6 +165,7 @@ pub(crate) fn resolve<L: Ledger>(
     steps: &mut Steps<L>,
 ) -> Result<Plan, Stop>
     ensures plans { PlansAt script.now body cells.now heap.old heap.new (λ here. resolve here named.now (purpose_program here purpose)) result }
+    ensures named { (w v : World) → StandsFor heap.old w → IsSound w → StandsFor heap.new v → IsKnownRunning script.now v.lists body → NamesPlan script.now v.lists result }
     ensures retains { Retains heap.old heap.new }
 {
     let name = intern(heap, &named.name)?;
@@ -183,6 +194,7 @@ fn member<L: Ledger>(
     steps: &mut Steps<L>,
 ) -> Result<Plan, Stop>
     ensures plans { PlansAt script.now body cells.now heap.old heap.new (λ here. access_reference here (access.Member base name.now read write) (purpose_program here purpose)) result }
+    ensures named { (w v : World) → StandsFor heap.old w → StandsFor heap.new v → IsSite script.now read → IsSite script.now write → NamesPlan script.now v.lists result }
     ensures retains { Retains heap.old heap.new }
 {
     let text = intern(heap, name)?;
@@ -212,6 +224,7 @@ pub(crate) fn access_reference<L: Ledger>(
     steps: &mut Steps<L>,
 ) -> Result<Plan, Stop>
     ensures plans { PlansAt script.now body cells.now heap.old heap.new (λ here. access_reference here access.now (purpose_program here purpose)) result }
+    ensures named { (w v : World) → StandsFor heap.old w → StandsFor heap.new v → NamesSites script.now access.now → NamesPlan script.now v.lists result }
     ensures retains { Retains heap.old heap.new }
 {
     match access {
@@ -245,7 +258,7 @@ pub(crate) fn access_reference<L: Ledger>(
 }
 
 /// An access as a target, with its turn.
-#[tactic(auto, using(object_heap::specs::Stands::goes_none, object_heap::specs::Stands::goes_then, object_heap::specs::Stands::halts_at, object_heap::proofs::Retaining::retains_none, object_heap::proofs::Retaining::retains_then, crate::proofs::Planned::plans_then))]
+#[tactic(auto, using(object_heap::specs::Stands::goes_none, object_heap::specs::Stands::goes_then, object_heap::specs::Stands::halts_at, object_heap::proofs::Retaining::retains_none, object_heap::proofs::Retaining::retains_then, crate::proofs::PlansNamed::keeps_wait, crate::proofs::PlansNamed::keeps_enter, crate::proofs::PlansNamed::keeps_ask, crate::proofs::PlansNamed::keeps_last, crate::proofs::PlansNamed::keeps_end, crate::proofs::PlansNamed::keeps_stop, crate::proofs::PlansNamed::defines_plan, crate::proofs::PlansNamed::defines_none, crate::proofs::PlansNamed::defines_stop, crate::proofs::Planned::plans_then))]
 pub(crate) fn access_target<L: Ledger>(
     heap: &mut Heap,
     script: &Checked,
@@ -256,6 +269,7 @@ pub(crate) fn access_target<L: Ledger>(
     steps: &mut Steps<L>,
 ) -> Result<Plan, Stop>
     ensures plans { PlansAt script.now body cells.now heap.old heap.new (λ here. charge 1 (access_reference here access.now (purpose_program here purpose))) result }
+    ensures named { (w v : World) → StandsFor heap.old w → StandsFor heap.new v → NamesSites script.now access.now → NamesPlan script.now v.lists result }
     ensures retains { Retains heap.old heap.new }
 {
     heap.charge(1)?;
@@ -272,6 +286,7 @@ fn target_node<L: Ledger>(
     steps: &mut Steps<L>,
 ) -> Result<Plan, Stop>
     ensures plans { PlansAt script.now body cells.now heap.old heap.new (λ here. target_at here (purpose_program here purpose) (Some node.now)) result }
+    ensures named { (w v : World) → StandsFor heap.old w → StandsFor heap.new v → NamesKnown script.now node.now → NamesPlan script.now v.lists result }
     ensures retains { Retains heap.old heap.new }
 {
     match node {
@@ -292,6 +307,7 @@ pub(crate) fn target_reference<L: Ledger>(
     steps: &mut Steps<L>,
 ) -> Result<Plan, Stop>
     ensures plans { PlansAt script.now body cells.now heap.old heap.new (λ here. target_reference here target.now (purpose_program here purpose)) result }
+    ensures named { (w v : World) → StandsFor heap.old w → IsSound w → StandsFor heap.new v → IsKnownRunning script.now v.lists body → NamesPlan script.now v.lists result }
     ensures retains { Retains heap.old heap.new }
 {
     match target {
@@ -354,6 +370,7 @@ pub(crate) fn access_valued<L: Ledger>(
     steps: &mut Steps<L>,
 ) -> Result<Plan, Stop>
     ensures plans { PlansAt script.now body cells.now heap.old heap.new (λ here. access_valued here item value) result }
+    ensures named { (w v : World) → StandsFor heap.old w → IsSound w → StandsFor heap.new v → HasNames script.now v.lists (names_of_access item) → IsKnown v.lists value → NamesPlan script.now v.lists result }
     ensures retains { Retains heap.old heap.new }
 {
     match item {

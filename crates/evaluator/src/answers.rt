@@ -1,10 +1,18 @@
 //! What waits for an answer goes on with it.
 
 ghost use Rattle.evaluator.specs.Plans.{PlansAt, asked_program, flag_answered, key_answered, value_answered};
-ghost use Rattle.std.specs.Prelude.{◌≡◌};
+ghost use Rattle.std.specs.Prelude.{◌≡◌, IfOk};
+ghost use Rattle.es_model.specs.programs.Abrupt.{key_in, or_throw, taken, value_in};
 ghost use Rattle.es_model.specs.Completions.{answered};
 ghost use Rattle.evaluator.specs.declared.references.Reference.TheVariants as reference;
 ghost use Rattle.object_heap.specs.Retains.{Retains};
+ghost use Rattle.es_model.specs.World.{Lists, World};
+ghost use Rattle.object_heap.specs.Stands.{StandsFor};
+ghost use Rattle.es_model.specs.Sound.{IsSound};
+ghost use Rattle.es_model.specs.Known.{IsKnown, IsKnownKey};
+ghost use Rattle.es_model.specs.Belongs.{HasNames};
+ghost use Rattle.es_model.specs.Fits.{IsKnownCompletion};
+ghost use Rattle.evaluator.specs.Names.{NamesPlan, names_of_asked, names_of_flag_asked, names_of_key_asked, names_of_value_asked};
 
 use crate::accesses::{property_reference, purpose_plan};
 use crate::arithmetic::{add_primitives, calculated, joined, negated, update_number};
@@ -20,6 +28,22 @@ use es_tree::Checked;
 use object_heap::Heap;
 use property_keys::{Ledger, PropKey, Steps, TextId, Value};
 
+/// The value of an answer, or what is thrown on. What the answer names is there.
+fn value_of(answer: Completion) -> Result<Value, Value>
+    ensures taken { taken value_in (answered answer) ≡ or_throw result }
+    ensures known { (l : Lists) → IsKnownCompletion l (answered answer) → IfOk result (IsKnown l) }
+{
+    answer.value()
+}
+
+/// The same of a property key.
+fn key_of(answer: Completion) -> Result<PropKey, Value>
+    ensures taken { taken key_in (answered answer) ≡ or_throw result }
+    ensures known { (l : Lists) → IsKnownCompletion l (answered answer) → IfOk result (IsKnownKey l) }
+{
+    answer.key()
+}
+
 fn value_answered<L: Ledger>(
     heap: &mut Heap,
     script: &Checked,
@@ -30,6 +54,7 @@ fn value_answered<L: Ledger>(
     steps: &mut Steps<L>,
 ) -> Result<Plan, Stop>
     ensures plans { PlansAt script.now body cells.now heap.old heap.new (λ here. value_answered here asked value) result }
+    ensures named { (w v : World) → StandsFor heap.old w → StandsFor heap.new v → HasNames script.now v.lists (names_of_value_asked asked) → IsKnown v.lists value → NamesPlan script.now v.lists result }
     ensures retains { Retains heap.old heap.new }
 {
     match asked {
@@ -130,6 +155,7 @@ fn flag_answered<L: Ledger>(
     steps: &mut Steps<L>,
 ) -> Result<Plan, Stop>
     ensures plans { PlansAt script.now body cells.now heap.old heap.new (λ here. flag_answered here asked flag) result }
+    ensures named { (w v : World) → StandsFor heap.old w → IsSound w → StandsFor heap.new v → HasNames script.now v.lists (names_of_flag_asked asked) → NamesPlan script.now v.lists result }
     ensures retains { Retains heap.old heap.new }
 {
     match asked {
@@ -177,6 +203,7 @@ fn key_answered<L: Ledger>(
     steps: &mut Steps<L>,
 ) -> Result<Plan, Stop>
     ensures plans { PlansAt script.now body cells.now heap.old heap.new (λ here. key_answered here asked key) result }
+    ensures named { (w v : World) → StandsFor heap.old w → IsSound w → StandsFor heap.new v → HasNames script.now v.lists (names_of_key_asked asked) → IsKnownKey v.lists key → NamesPlan script.now v.lists result }
     ensures retains { Retains heap.old heap.new }
 {
     match asked {
@@ -209,10 +236,11 @@ pub(crate) fn asked_plan<L: Ledger>(
     steps: &mut Steps<L>,
 ) -> Result<Plan, Stop>
     ensures plans { PlansAt script.now body cells.now heap.old heap.new (λ here. asked_program here asked (answered answer)) result }
+    ensures named { (w v : World) → StandsFor heap.old w → IsSound w → StandsFor heap.new v → HasNames script.now v.lists (names_of_asked asked) → IsKnownCompletion v.lists (answered answer) → NamesPlan script.now v.lists result }
     ensures retains { Retains heap.old heap.new }
 {
     match asked {
-        Asked::Value(next) => match answer.value() {
+        Asked::Value(next) => match value_of(answer) {
             Err(thrown) => Ok(Plan::Ends(Ending::Throws(thrown))),
             Ok(value) => value_answered(heap, script, body, cells, next, value, steps),
         },
@@ -220,7 +248,7 @@ pub(crate) fn asked_plan<L: Ledger>(
             Err(thrown) => Ok(Plan::Ends(Ending::Throws(thrown))),
             Ok(flag) => flag_answered(heap, script, body, cells, next, flag, steps),
         },
-        Asked::Key(next) => match answer.key() {
+        Asked::Key(next) => match key_of(answer) {
             Err(thrown) => Ok(Plan::Ends(Ending::Throws(thrown))),
             Ok(key) => key_answered(heap, script, body, cells, next, key, steps),
         },

@@ -1,11 +1,17 @@
 //! ApplyStringOrNumericBinaryOperator (ECMA-262, 13.15.3), and what is done with the result.
 
+ghost use Rattle.std.specs.Prelude.{◌≡◌, if◌then◌else◌};
 ghost use Rattle.evaluator.specs.Assignments.{update_number};
 ghost use Rattle.evaluator.specs.Operators.{add_primitives, apply, calculated, finished, joined, negated, numbers};
 ghost use Rattle.evaluator.specs.Plans.{PlansAt};
 ghost use Rattle.property_keys.specs.declared.values.Value.TheVariants as values;
 ghost use Rattle.evaluator.specs.Values.{calculate, or_out};
 ghost use Rattle.object_heap.specs.Retains.{Retains};
+ghost use Rattle.es_model.specs.World.{Lists, World};
+ghost use Rattle.object_heap.specs.Stands.{StandsFor};
+ghost use Rattle.es_model.specs.Known.{IsKnown};
+ghost use Rattle.es_model.specs.Belongs.{HasNames};
+ghost use Rattle.evaluator.specs.Names.{NamesPlan, names_of_finish, names_of_reference};
 
 use crate::cells::Cells;
 use crate::items::{Asked, Ending, Plan, ValueAsked};
@@ -30,6 +36,7 @@ fn finished<L: Ledger>(
     steps: &mut Steps<L>,
 ) -> Result<Plan, Stop>
     ensures plans { PlansAt script.now body cells.now heap.old heap.new (λ here. finished here finish value) result }
+    ensures named { (l : Lists) → HasNames script.now l (names_of_finish finish) → IsKnown l value → NamesPlan script.now l result }
     ensures retains { Retains heap.old heap.new }
 {
     match finish {
@@ -52,6 +59,7 @@ fn number_calculated<L: Ledger>(
     steps: &mut Steps<L>,
 ) -> Result<Plan, Stop>
     ensures plans { PlansAt script.now body cells.now heap.old heap.new (λ here. or_out (calculate operator a b) (λ n. finished here finish (values.Whole n))) result }
+    ensures named { (l : Lists) → HasNames script.now l (names_of_finish finish) → NamesPlan script.now l result }
     ensures retains { Retains heap.old heap.new }
 {
     match result_of(operator, a, b) {
@@ -73,6 +81,7 @@ pub(crate) fn calculated<L: Ledger>(
     steps: &mut Steps<L>,
 ) -> Result<Plan, Stop>
     ensures plans { PlansAt script.now body cells.now heap.old heap.new (λ here. calculated here operator finish left right) result }
+    ensures named { (l : Lists) → HasNames script.now l (names_of_finish finish) → NamesPlan script.now l result }
     ensures retains { Retains heap.old heap.new }
 {
     match left {
@@ -108,6 +117,7 @@ fn numbers<L: Ledger>(
     steps: &mut Steps<L>,
 ) -> Result<Plan, Stop>
     ensures plans { PlansAt script.now body cells.now heap.old heap.new (λ here. numbers here operator finish a b) result }
+    ensures named { (l : Lists) → HasNames script.now l (names_of_finish finish) → IsKnown l b → NamesPlan script.now l result }
     ensures retains { Retains heap.old heap.new }
 {
     let next = ValueAsked::LeftNumber {
@@ -127,7 +137,7 @@ fn numbers<L: Ledger>(
     )
 }
 
-#[tactic(auto, using(object_heap::specs::Stands::goes_none, object_heap::specs::Stands::goes_then, object_heap::specs::Stands::halts_at, object_heap::proofs::Retaining::retains_none, object_heap::proofs::Retaining::retains_then, crate::proofs::Planned::plans_then))]
+#[tactic(auto, using(object_heap::specs::Stands::goes_none, object_heap::specs::Stands::goes_then, object_heap::specs::Stands::halts_at, object_heap::proofs::Retaining::retains_none, object_heap::proofs::Retaining::retains_then, crate::proofs::PlansNamed::keeps_wait, crate::proofs::PlansNamed::keeps_enter, crate::proofs::PlansNamed::keeps_ask, crate::proofs::PlansNamed::keeps_last, crate::proofs::PlansNamed::keeps_end, crate::proofs::PlansNamed::keeps_stop, crate::proofs::PlansNamed::defines_plan, crate::proofs::PlansNamed::defines_none, crate::proofs::PlansNamed::defines_stop, crate::proofs::Planned::plans_then))]
 fn texts_joined<L: Ledger>(
     heap: &mut Heap,
     script: &Checked,
@@ -139,6 +149,7 @@ fn texts_joined<L: Ledger>(
     steps: &mut Steps<L>,
 ) -> Result<Plan, Stop>
     ensures plans { PlansAt script.now body cells.now heap.old heap.new (λ here. joined here finish (values.Text a) (values.Text b)) result }
+    ensures named { (w v : World) → StandsFor heap.old w → StandsFor heap.new v → HasNames script.now v.lists (names_of_finish finish) → NamesPlan script.now v.lists result }
     ensures retains { Retains heap.old heap.new }
 {
     match join(heap, a, b)? {
@@ -159,6 +170,7 @@ pub(crate) fn joined<L: Ledger>(
     steps: &mut Steps<L>,
 ) -> Result<Plan, Stop>
     ensures plans { PlansAt script.now body cells.now heap.old heap.new (λ here. joined here finish left right) result }
+    ensures named { (w v : World) → StandsFor heap.old w → StandsFor heap.new v → HasNames script.now v.lists (names_of_finish finish) → NamesPlan script.now v.lists result }
     ensures retains { Retains heap.old heap.new }
 {
     match left {
@@ -192,6 +204,7 @@ pub(crate) fn add_primitives<L: Ledger>(
     steps: &mut Steps<L>,
 ) -> Result<Plan, Stop>
     ensures plans { PlansAt script.now body cells.now heap.old heap.new (λ here. add_primitives here finish a b) result }
+    ensures named { (l : Lists) → HasNames script.now l (names_of_finish finish) → IsKnown l b → NamesPlan script.now l result }
     ensures retains { Retains heap.old heap.new }
 {
     if is_text(a) || is_text(b) {
@@ -233,6 +246,7 @@ pub(crate) fn apply<L: Ledger>(
     steps: &mut Steps<L>,
 ) -> Result<Plan, Stop>
     ensures plans { PlansAt script.now body cells.now heap.old heap.new (λ here. apply here operator finish a b) result }
+    ensures named { (l : Lists) → HasNames script.now l (names_of_finish finish) → IsKnown l b → NamesPlan script.now l result }
     ensures retains { Retains heap.old heap.new }
 {
     match operator {
@@ -294,6 +308,7 @@ fn number_negated<L: Ledger>(
     steps: &mut Steps<L>,
 ) -> Result<Plan, Stop>
     ensures plans { PlansAt script.now body cells.now heap.old heap.new (λ here. negated (values.Whole n)) result }
+    ensures named { (l : Lists) → NamesPlan script.now l result }
     ensures retains { Retains heap.old heap.new }
 {
     match negative_of(n) {
@@ -312,6 +327,7 @@ pub(crate) fn negated<L: Ledger>(
     steps: &mut Steps<L>,
 ) -> Result<Plan, Stop>
     ensures plans { PlansAt script.now body cells.now heap.old heap.new (λ here. negated value) result }
+    ensures named { (l : Lists) → NamesPlan script.now l result }
     ensures retains { Retains heap.old heap.new }
 {
     match value {
@@ -323,6 +339,13 @@ pub(crate) fn negated<L: Ledger>(
         | Value::Symbol(_)
         | Value::Object(_) => Ok(Plan::Ends(Ending::Throws(Value::Undefined))),
     }
+}
+
+/// What an update gives: the number after it where the operator stands before the operand.
+fn given_of(prefix: bool, after: i64, before: i64) -> i64
+    ensures { result ≡ if prefix then after else before }
+{
+    if prefix { after } else { before }
 }
 
 fn number_updated<L: Ledger>(
@@ -337,12 +360,13 @@ fn number_updated<L: Ledger>(
     steps: &mut Steps<L>,
 ) -> Result<Plan, Stop>
     ensures plans { PlansAt script.now body cells.now heap.old heap.new (λ here. update_number here increment prefix reference (values.Whole n)) result }
+    ensures named { (l : Lists) → HasNames script.now l (names_of_reference reference) → IsKnown l (values.Whole n) → NamesPlan script.now l result }
     ensures retains { Retains heap.old heap.new }
 {
     match step(increment, n) {
         None => out_of_profile(heap, script, body, cells, steps),
         Some(m) => {
-            let given = if prefix { m } else { n };
+            let given = given_of(prefix, m, n);
             put_value(
                 heap,
                 script,
@@ -370,6 +394,7 @@ pub(crate) fn update_number<L: Ledger>(
     steps: &mut Steps<L>,
 ) -> Result<Plan, Stop>
     ensures plans { PlansAt script.now body cells.now heap.old heap.new (λ here. update_number here increment prefix reference value) result }
+    ensures named { (l : Lists) → HasNames script.now l (names_of_reference reference) → IsKnown l value → NamesPlan script.now l result }
     ensures retains { Retains heap.old heap.new }
 {
     match value {

@@ -3,6 +3,11 @@
 ghost use Rattle.evaluator.specs.Assignments.{assignment};
 ghost use Rattle.evaluator.specs.Plans.{PlansAt};
 ghost use Rattle.object_heap.specs.Retains.{Retains};
+ghost use Rattle.es_model.specs.World.{World};
+ghost use Rattle.object_heap.specs.Stands.{StandsFor};
+ghost use Rattle.es_model.specs.Sound.{IsSound};
+ghost use Rattle.es_model.specs.Kept.{IsKnownRunning};
+ghost use Rattle.evaluator.specs.Names.{NamesPlan};
 
 use crate::accesses::target_reference;
 use crate::cells::Cells;
@@ -24,6 +29,7 @@ pub(crate) fn assignment<L: Ledger>(
     steps: &mut Steps<L>,
 ) -> Result<Plan, Stop>
     ensures plans { PlansAt script.now body cells.now heap.old heap.new (λ here. assignment here operator target.now value) result }
+    ensures named { (w v : World) → StandsFor heap.old w → IsSound w → StandsFor heap.new v → IsKnownRunning script.now v.lists body → NamesPlan script.now v.lists result }
     ensures retains { Retains heap.old heap.new }
 {
     match operator {

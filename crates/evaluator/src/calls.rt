@@ -9,6 +9,13 @@ ghost use Rattle.evaluator.specs.Plans.{PlansAt, reading_program};
 ghost use Rattle.evaluator.specs.References.{base_of};
 ghost use Rattle.evaluator.specs.declared.items.Reading.TheVariants as reading_of;
 ghost use Rattle.object_heap.specs.Retains.{Retains};
+ghost use Rattle.es_model.specs.World.{Lists, World};
+ghost use Rattle.object_heap.specs.Stands.{StandsFor};
+ghost use Rattle.es_model.specs.Sound.{IsSound};
+ghost use Rattle.es_model.specs.Known.{IsKnown, AreKnown};
+ghost use Rattle.es_tree.specs.Tree.{NamesSites, NamesKnown};
+ghost use Rattle.es_model.specs.Belongs.{HasNames};
+ghost use Rattle.evaluator.specs.Names.{NamesPlan, names_of_invocation, names_of_reference};
 
 use crate::accesses::access_target;
 use crate::cells::Cells;
@@ -32,6 +39,7 @@ fn construct<L: Ledger>(
     steps: &mut Steps<L>,
 ) -> Result<Plan, Stop>
     ensures plans { PlansAt script.now body cells.now heap.old heap.new (λ here. construct constructor arguments) result }
+    ensures named { (l : Lists) → NamesPlan script.now l result }
     ensures retains { Retains heap.old heap.new }
 {
     match constructor {
@@ -63,6 +71,7 @@ fn invoke<L: Ledger>(
     steps: &mut Steps<L>,
 ) -> Result<Plan, Stop>
     ensures plans { PlansAt script.now body cells.now heap.old heap.new (λ here. invoke invocation arguments) result }
+    ensures named { (l : Lists) → NamesPlan script.now l result }
     ensures retains { Retains heap.old heap.new }
 {
     match invocation {
@@ -99,6 +108,7 @@ pub(crate) fn arguments_from<L: Ledger>(
     steps: &mut Steps<L>,
 ) -> Result<Plan, Stop>
     ensures plans { PlansAt script.now body cells.now heap.old heap.new (λ here. arguments_from here invocation (drop next (arguments_at here node)) given) result }
+    ensures named { (l : Lists) → HasNames script.now l (names_of_invocation invocation) → AreKnown l given → NamesPlan script.now l result }
     ensures retains { Retains heap.old heap.new }
 {
     match argument_at(script, node, next) {
@@ -132,6 +142,7 @@ pub(crate) fn argument_valued<L: Ledger>(
     steps: &mut Steps<L>,
 ) -> Result<Plan, Stop>
     ensures plans { PlansAt script.now body cells.now heap.old heap.new (λ here. arguments_from here invocation (drop next (arguments_at here node)) (given ++ value ∷ [])) result }
+    ensures named { (l : Lists) → HasNames script.now l (names_of_invocation invocation) → AreKnown l given → IsKnown l value → NamesPlan script.now l result }
     ensures retains { Retains heap.old heap.new }
 {
     let mut given = given;
@@ -163,6 +174,7 @@ pub(crate) fn callee_reference<L: Ledger>(
     steps: &mut Steps<L>,
 ) -> Result<Plan, Stop>
     ensures plans { PlansAt script.now body cells.now heap.old heap.new (λ here. callee_reference here node reference) result }
+    ensures named { (w v : World) → StandsFor heap.old w → IsSound w → StandsFor heap.new v → HasNames script.now v.lists (names_of_reference reference) → NamesPlan script.now v.lists result }
     ensures retains { Retains heap.old heap.new }
 {
     let reading = Reading::Callee {
@@ -183,6 +195,7 @@ fn plain_callee<L: Ledger>(
     steps: &mut Steps<L>,
 ) -> Result<Plan, Stop>
     ensures plans { PlansAt script.now body cells.now heap.old heap.new (λ here. evaluate here callee (reading_program here (reading_of.Callee node values.Undefined))) result }
+    ensures named { (l : Lists) → NamesPlan script.now l result }
     ensures retains { Retains heap.old heap.new }
 {
     Ok(Plan::Wait(
@@ -208,6 +221,7 @@ fn callee_access<L: Ledger>(
     steps: &mut Steps<L>,
 ) -> Result<Plan, Stop>
     ensures plans { PlansAt script.now body cells.now heap.old heap.new (λ here. call_of here node callee (Some (node_of.Access access.now))) result }
+    ensures named { (w v : World) → StandsFor heap.old w → StandsFor heap.new v → NamesSites script.now access.now → NamesPlan script.now v.lists result }
     ensures retains { Retains heap.old heap.new }
 {
     match access {
@@ -237,6 +251,7 @@ fn callee_node<L: Ledger>(
     steps: &mut Steps<L>,
 ) -> Result<Plan, Stop>
     ensures plans { PlansAt script.now body cells.now heap.old heap.new (λ here. call_of here node callee (Some found.now)) result }
+    ensures named { (w v : World) → StandsFor heap.old w → StandsFor heap.new v → NamesKnown script.now found.now → NamesPlan script.now v.lists result }
     ensures retains { Retains heap.old heap.new }
 {
     match found {
@@ -259,6 +274,7 @@ pub(crate) fn call_expression<L: Ledger>(
     steps: &mut Steps<L>,
 ) -> Result<Plan, Stop>
     ensures plans { PlansAt script.now body cells.now heap.old heap.new (λ here. call_expression here node callee) result }
+    ensures named { (w v : World) → StandsFor heap.old w → StandsFor heap.new v → NamesPlan script.now v.lists result }
     ensures retains { Retains heap.old heap.new }
 {
     match node_at(script, callee) {
@@ -277,6 +293,7 @@ pub(crate) fn new_expression<L: Ledger>(
     steps: &mut Steps<L>,
 ) -> Result<Plan, Stop>
     ensures plans { PlansAt script.now body cells.now heap.old heap.new (λ here. new_expression here node callee) result }
+    ensures named { (l : Lists) → NamesPlan script.now l result }
     ensures retains { Retains heap.old heap.new }
 {
     Ok(Plan::Wait(

@@ -6,6 +6,7 @@ ghost use Rattle.object_heap.specs.Retains.{Retains};
 ghost use Rattle.object_heap.specs.Stands.{Goes, StandsFor};
 ghost use Rattle.evaluator.specs.References.{cell_in_force};
 ghost use Rattle.evaluator.specs.Scopes.{fresh_cells, world_with};
+ghost use Rattle.es_model.specs.Kept.{AreCells};
 
 use es_model::CellNo;
 use object_heap::Heap;
@@ -74,6 +75,7 @@ pub(crate) fn make_cells(heap: &mut Heap, cells: &mut Cells, n: u32) -> Result<(
     ensures goes { OnOk result ((w : World) → StandsFor heap.old w → Goes heap.old heap.new w (world_with n w)) }
     ensures front { OnOk result (take (length cells.old) cells.new ≡ cells.old) }
     ensures cells { OnOk result ((w : World) → StandsFor heap.old w → cells.new ≡ cells.old ++ fresh_cells n w) }
+    ensures known { (w v : World) → StandsFor heap.old w → StandsFor heap.new v → AreCells v.lists cells.old → OnOk result (AreCells v.lists cells.new) }
     ensures retains { Retains heap.old heap.new }
 {
     let mut left = n;

@@ -9,6 +9,8 @@ ghost use Rattle.evaluator.specs.Plans.{PlansAt, ended};
 ghost use Rattle.evaluator.specs.Scopes.{bound_cell};
 ghost use Rattle.evaluator.specs.Statements.{declare_all, declared_at, declared_in, declared_valued};
 ghost use Rattle.object_heap.specs.Retains.{Retains};
+ghost use Rattle.es_model.specs.World.{Lists};
+ghost use Rattle.evaluator.specs.Names.{NamesPlan};
 
 use crate::cells::Cells;
 use crate::endings::value_of;
@@ -132,6 +134,7 @@ pub(crate) fn declare_from<L: Ledger>(
     steps: &mut Steps<L>,
 ) -> Result<Plan, Stop>
     ensures plans { PlansAt script.now body cells.now heap.old heap.new (λ here. declare_all here (drop first (declared_at here node))) result }
+    ensures named { (l : Lists) → NamesPlan script.now l result }
     ensures retains { Retains heap.old heap.new }
 {
     let count = declared_count(script, node);
@@ -173,6 +176,7 @@ pub(crate) fn declared_valued<L: Ledger>(
     steps: &mut Steps<L>,
 ) -> Result<Plan, Stop>
     ensures plans { PlansAt script.now body cells.now heap.old heap.new (λ here. declared_valued here (drop next (declared_at here node)) (ended end)) result }
+    ensures named { (l : Lists) → NamesPlan script.now l result }
     ensures retains { Retains heap.old heap.new }
 {
     if next >= declared_count(script, node) {

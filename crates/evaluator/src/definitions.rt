@@ -7,7 +7,7 @@ ghost use Rattle.es_tree.specs.declared.primaries.Property.TheVariants as proper
 ghost use Rattle.es_model.specs.Changes.{Defining, changed};
 ghost use Rattle.es_model.specs.Program.{Program, define, look};
 ghost use Rattle.es_model.specs.Stages.{stage_of};
-ghost use Rattle.es_model.specs.World.{World, cell as cell_of};
+ghost use Rattle.es_model.specs.World.{World, cell as cell_of, Lists};
 ghost use Rattle.evaluator.specs.Contexts.{Context};
 ghost use Rattle.evaluator.specs.Literals.{accessor, method_keyed, plain, properties_at, properties_in, property_key, property_then, property_valued, value_keyed};
 ghost use Rattle.evaluator.specs.Plans.{Defines, DefinesAt, Plans, PlansAt, StandsAt, definitions_from, literal_valued, made_by, property_keyed};
@@ -20,6 +20,10 @@ ghost use Rattle.evaluator.specs.declared.items.Plan.TheVariants as plan;
 ghost use Rattle.object_heap.specs.Retains.{Retains};
 ghost use Rattle.object_heap.specs.Stands.{Goes, HeapView, StandsFor};
 ghost use Rattle.property_keys.specs.declared.values.Value.TheVariants as values;
+ghost use Rattle.es_model.specs.Known.{IsObject, IsKnownKey, IsText};
+ghost use Rattle.es_model.specs.Belongs.{HasNames};
+ghost use Rattle.es_tree.specs.Tree.{Tree};
+ghost use Rattle.evaluator.specs.Names.{NamesDefined, NamesPlan, names_of_literal};
 
 use crate::cells::Cells;
 use crate::items::{
@@ -237,6 +241,7 @@ fn method_keyed<L: Ledger>(
 ) -> Result<Plan, Stop>
     requires { length prefix.now ≤ 100 }
     ensures plans { PlansAt script.now body cells.now heap.old heap.new (λ here. method_keyed here place.object prefix.now (made_by made) method (definitions_from here place.node place.next place.object) key) result }
+    ensures named { (l : Lists) → IsObject l place.object → IsKnownKey l key → NamesPlan script.now l result }
     ensures retains { Retains heap.old heap.new }
 {
     match name_of_key(heap, prefix, key)? {
@@ -257,6 +262,7 @@ fn value_keyed<L: Ledger>(
     steps: &mut Steps<L>,
 ) -> Result<Plan, Stop>
     ensures plans { PlansAt script.now body cells.now heap.old heap.new (λ here. value_keyed here place.object value (definitions_from here place.node place.next place.object) key) result }
+    ensures named { (l : Lists) → IsObject l place.object → IsKnownKey l key → NamesPlan script.now l result }
     ensures retains { Retains heap.old heap.new }
 {
     if is_anonymous(script, value) {
@@ -281,6 +287,7 @@ fn property_keyed<L: Ledger>(
     steps: &mut Steps<L>,
 ) -> Result<Plan, Stop>
     ensures plans { PlansAt script.now body cells.now heap.old heap.new (λ here. property_keyed here place.object (property.now ∷ drop place.next (properties_at here place.node)) key) result }
+    ensures named { (l : Lists) → IsObject l place.object → IsKnownKey l key → NamesPlan script.now l result }
     ensures retains { Retains heap.old heap.new }
 {
     match property {
@@ -322,6 +329,7 @@ pub(crate) fn definition_keyed<L: Ledger>(
     steps: &mut Steps<L>,
 ) -> Result<Plan, Stop>
     ensures plans { PlansAt script.now body cells.now heap.old heap.new (λ here. property_keyed here object (drop at (properties_at here node)) key) result }
+    ensures named { (l : Lists) → IsObject l object → IsKnownKey l key → NamesPlan script.now l result }
     ensures retains { Retains heap.old heap.new }
 {
     if at >= property_count(script, node) {
@@ -354,6 +362,7 @@ fn property_key<L: Ledger>(
 ) -> Result<Plan, Stop>
     requires { StandsAt script.now place.node place.at place.next property.now }
     ensures plans { PlansAt script.now body cells.now heap.old heap.new (λ here. property_key here name.now (property_keyed here place.object (property.now ∷ drop place.next (properties_at here place.node)))) result }
+    ensures named { (w v : World) → StandsFor heap.old w → StandsFor heap.new v → IsObject v.lists place.object → NamesPlan script.now v.lists result }
     ensures retains { Retains heap.old heap.new }
 {
     match name {
@@ -388,6 +397,7 @@ fn name_valued<L: Ledger>(
     steps: &mut Steps<L>,
 ) -> Result<Option<Plan>, Stop>
     ensures defines { (here : Context) (rest : Program) (w : World) → StandsFor heap.old w → Defines here heap.old heap.new w (define object key (plain value) (λ succeeded. rest)) rest result }
+    ensures named { (script : Tree) (l : Lists) → NamesDefined script l result }
     ensures retains { Retains heap.old heap.new }
 {
     define(heap, object, key, Made::Plain, value, steps)?;
@@ -406,6 +416,7 @@ fn name_in_cell<L: Ledger>(
     steps: &mut Steps<L>,
 ) -> Result<Option<Plan>, Stop>
     ensures defines { DefinesAt script.now body cells.now heap.old heap.new (λ here next. look (λ l. cell_value name (property_valued place.object key plain next) (cell_of l cell))) (λ here. definitions_from here place.node place.next place.object) result }
+    ensures named { (l : Lists) → NamesDefined script.now l result }
     ensures retains { Retains heap.old heap.new }
 {
     match heap.cell(cell) {
@@ -416,7 +427,8 @@ fn name_in_cell<L: Ledger>(
 
 /// The first look at a name of the global object.
 fn look_up(heap: &Heap, place: Definition, name: TextId, key: PropKey) -> Plan
-    ensures { (here : Context) (w : World) → StandsFor heap.now w → Plans here here heap.now heap.now w (stage_of (resolve_bound here name binding_of.Global (λ r. get_value here r (property_valued place.object key plain (definitions_from here place.node place.next place.object)))) w) (Ok result) }
+    ensures plans { (here : Context) (w : World) → StandsFor heap.now w → Plans here here heap.now heap.now w (stage_of (resolve_bound here name binding_of.Global (λ r. get_value here r (property_valued place.object key plain (definitions_from here place.node place.next place.object)))) w) (Ok result) }
+    ensures named { (script : Tree) (v : World) → StandsFor heap.now v → IsObject v.lists place.object → IsKnownKey v.lists key → IsText v.lists name → NamesPlan script v.lists (Ok result) }
 {
     let looked = key_of(heap, name);
     let request = Request::Has {
@@ -450,6 +462,7 @@ fn name_bound<L: Ledger>(
     steps: &mut Steps<L>,
 ) -> Result<Option<Plan>, Stop>
     ensures defines { DefinesAt script.now body cells.now heap.old heap.new (λ here next. resolve_bound here name binding (λ r. get_value here r (property_valued place.object key plain next))) (λ here. definitions_from here place.node place.next place.object) result }
+    ensures named { (w v : World) → StandsFor heap.old w → StandsFor heap.new v → IsObject v.lists place.object → IsKnownKey v.lists key → IsText v.lists name → NamesDefined script.now v.lists result }
     ensures retains { Retains heap.old heap.new }
 {
     match binding {
@@ -484,6 +497,7 @@ fn shorthand<L: Ledger>(
     steps: &mut Steps<L>,
 ) -> Result<Option<Plan>, Stop>
     ensures defines { DefinesAt script.now body cells.now heap.old heap.new (λ here. property_then here place.object (property_of.Shorthand named.now)) (λ here. definitions_from here place.node place.next place.object) result }
+    ensures named { (w v : World) → StandsFor heap.old w → StandsFor heap.new v → IsObject v.lists place.object → NamesDefined script.now v.lists result }
     ensures retains { Retains heap.old heap.new }
 {
     let text = intern(heap, &named.name)?;
@@ -507,7 +521,8 @@ fn shorthand<L: Ledger>(
 
 /// A definition that is not done: what it does next.
 fn not_done(going: Result<Plan, Stop>) -> Result<Option<Plan>, Stop>
-    ensures { (here : Context) (a b : HeapView) (w : World) (p rest : Program) → Plans here here a b w (stage_of p w) going → Defines here a b w p rest result }
+    ensures defines { (here : Context) (a b : HeapView) (w : World) (p rest : Program) → Plans here here a b w (stage_of p w) going → Defines here a b w p rest result }
+    ensures named { (script : Tree) (l : Lists) → NamesPlan script l going → NamesDefined script l result }
 {
     match going {
         Ok(next) => Ok(Some(next)),
@@ -543,6 +558,7 @@ fn property_then<L: Ledger>(
 ) -> Result<Option<Plan>, Stop>
     requires { StandsAt script.now place.node place.at place.next property.now }
     ensures defines { DefinesAt script.now body cells.now heap.old heap.new (λ here. property_then here place.object property.now) (λ here. definitions_from here place.node place.next place.object) result }
+    ensures named { (w v : World) → StandsFor heap.old w → StandsFor heap.new v → IsObject v.lists place.object → NamesDefined script.now v.lists result }
     ensures retains { Retains heap.old heap.new }
 {
     match property {
@@ -564,7 +580,7 @@ fn property_then<L: Ledger>(
 }
 
 /// The property definitions of an object literal from a number on.
-#[tactic(auto, using(object_heap::specs::Stands::goes_none, object_heap::specs::Stands::goes_then, object_heap::specs::Stands::halts_at, object_heap::proofs::Retaining::retains_none, object_heap::proofs::Retaining::retains_then, crate::proofs::Defining::defined_on, crate::proofs::Defining::defined_plan, crate::proofs::Defining::defined_stops, crate::proofs::Defining::defined_ends))]
+#[tactic(auto, using(object_heap::specs::Stands::goes_none, object_heap::specs::Stands::goes_then, object_heap::specs::Stands::halts_at, object_heap::proofs::Retaining::retains_none, object_heap::proofs::Retaining::retains_then, crate::proofs::PlansNamed::keeps_wait, crate::proofs::PlansNamed::keeps_enter, crate::proofs::PlansNamed::keeps_ask, crate::proofs::PlansNamed::keeps_last, crate::proofs::PlansNamed::keeps_end, crate::proofs::PlansNamed::keeps_stop, crate::proofs::PlansNamed::defines_plan, crate::proofs::PlansNamed::defines_none, crate::proofs::PlansNamed::defines_stop, crate::proofs::Defining::defined_on, crate::proofs::Defining::defined_plan, crate::proofs::Defining::defined_stops, crate::proofs::Defining::defined_ends))]
 pub(crate) fn properties_from<L: Ledger>(
     heap: &mut Heap,
     script: &Checked,
@@ -576,6 +592,7 @@ pub(crate) fn properties_from<L: Ledger>(
     steps: &mut Steps<L>,
 ) -> Result<Plan, Stop>
     ensures plans { PlansAt script.now body cells.now heap.old heap.new (λ here. definitions_from here node first object) result }
+    ensures named { (w v : World) → StandsFor heap.old w → StandsFor heap.new v → IsObject v.lists object → NamesPlan script.now v.lists result }
     ensures retains { Retains heap.old heap.new }
 {
     let count = property_count(script, node);
@@ -613,6 +630,7 @@ pub(crate) fn property_valued<L: Ledger>(
     steps: &mut Steps<L>,
 ) -> Result<Plan, Stop>
     ensures plans { PlansAt script.now body cells.now heap.old heap.new (λ here. literal_valued here (literal.PropertyValued node next object key made) value) result }
+    ensures named { (w v : World) → StandsFor heap.old w → StandsFor heap.new v → IsObject v.lists object → NamesPlan script.now v.lists result }
     ensures retains { Retains heap.old heap.new }
 {
     define(heap, object, key, made, value, steps)?;
@@ -632,6 +650,7 @@ fn proto_valued<L: Ledger>(
     steps: &mut Steps<L>,
 ) -> Result<Plan, Stop>
     ensures plans { PlansAt script.now body cells.now heap.old heap.new (λ here. literal_valued here (literal.ProtoValued node next object) value) result }
+    ensures named { (w v : World) → StandsFor heap.old w → StandsFor heap.new v → IsObject v.lists object → NamesPlan script.now v.lists result }
     ensures retains { Retains heap.old heap.new }
 {
     let proto = match value {
@@ -657,6 +676,7 @@ pub(crate) fn literal_valued<L: Ledger>(
     steps: &mut Steps<L>,
 ) -> Result<Plan, Stop>
     ensures plans { PlansAt script.now body cells.now heap.old heap.new (λ here. literal_valued here item value) result }
+    ensures named { (w v : World) → StandsFor heap.old w → StandsFor heap.new v → HasNames script.now v.lists (names_of_literal item) → NamesPlan script.now v.lists result }
     ensures retains { Retains heap.old heap.new }
 {
     match item {

@@ -1,6 +1,9 @@
 //! ReturnIfAbrupt (ECMA-262, 5.2.3.3) over the ends of parts.
 
-ghost use Rattle.std.specs.Prelude.{◌≡◌};
+ghost use Rattle.std.specs.Prelude.{◌≡◌, IfOk};
+ghost use Rattle.es_model.specs.Fits.{IsKnownCompletion};
+ghost use Rattle.es_model.specs.Known.{IsKnown};
+ghost use Rattle.es_model.specs.World.{Lists};
 ghost use Rattle.es_model.specs.Completions.{answered};
 ghost use Rattle.es_model.specs.programs.Abrupt.{taken, value_in};
 ghost use Rattle.evaluator.specs.Functions.{body_end};
@@ -12,7 +15,8 @@ use property_keys::Value;
 
 /// The value of an end, or the abrupt end.
 pub(crate) fn value_of(end: Ending) -> Result<Value, Ending>
-    ensures { taken value_in (ended end) ≡ or_end result }
+    ensures taken { taken value_in (ended end) ≡ or_end result }
+    ensures known { (l : Lists) → IsKnownCompletion l (ended end) → IfOk result (IsKnown l) }
 {
     match end {
         Ending::Gives(value) => Ok(value),

@@ -2,7 +2,7 @@
 
 ghost use Rattle.std.specs.Prelude.{◌≡◌, None, OnOk, Some, length, slice_get, take};
 ghost use Rattle.property_keys.specs.declared.values.Value.TheVariants as values;
-ghost use Rattle.es_tree.specs.Tree.{NamesKnown};
+ghost use Rattle.es_tree.specs.Tree.{NamesKnown, NamesSites};
 ghost use Rattle.es_tree.specs.declared.node.Node.TheVariants as node_is;
 ghost use Rattle.evaluator.specs.Contexts.{context};
 ghost use Rattle.evaluator.specs.Plans.{PlansAt, PlansIn, PlansOf, ended, item_program, item_valued, job_program};
@@ -15,6 +15,14 @@ ghost use Rattle.evaluator.specs.declared.items.OperatorItem.TheVariants as wait
 ghost use Rattle.evaluator.specs.declared.items.Plan.TheVariants as plan;
 ghost use Rattle.evaluator.specs.Tasks.{access_program, node_of, operator_program};
 ghost use Rattle.object_heap.specs.Retains.{Retains};
+ghost use Rattle.es_model.specs.World.{Lists, World};
+ghost use Rattle.object_heap.specs.Stands.{StandsFor};
+ghost use Rattle.es_model.specs.Sound.{IsSound};
+ghost use Rattle.es_model.specs.Known.{IsKnown};
+ghost use Rattle.es_model.specs.Belongs.{HasNames};
+ghost use Rattle.es_model.specs.Kept.{IsKnownRunning, AreCells};
+ghost use Rattle.es_model.specs.Fits.{IsKnownCompletion};
+ghost use Rattle.evaluator.specs.Names.{NamesPlan, names_of_item};
 
 use crate::accesses::{access_reference, access_valued, target_reference};
 use crate::assignments::assignment;
@@ -52,6 +60,7 @@ fn comma_list<L: Ledger>(
 ) -> Result<Plan, Stop>
     requires { slice_get script.now.nodes node.0 ≡ Some (node_is.Operator operator.now) }
     ensures plans { PlansAt script.now body cells.now heap.old heap.new (λ here. comma_from here (comma_in (Some (node_is.Operator operator.now))) values.Undefined) result }
+    ensures named { (l : Lists) → NamesPlan script.now l result }
     ensures retains { Retains heap.old heap.new }
 {
     let before = Value::Undefined;
@@ -69,6 +78,7 @@ fn update_expression<L: Ledger>(
     steps: &mut Steps<L>,
 ) -> Result<Plan, Stop>
     ensures plans { PlansAt script.now body cells.now heap.old heap.new (λ here. target_reference here target.now (update_reference here increment prefix)) result }
+    ensures named { (w v : World) → StandsFor heap.old w → IsSound w → StandsFor heap.new v → IsKnownRunning script.now v.lists body → NamesPlan script.now v.lists result }
     ensures retains { Retains heap.old heap.new }
 {
     let purpose = Purpose::Update { increment, prefix };
@@ -105,6 +115,7 @@ fn operator_plan<L: Ledger>(
 ) -> Result<Plan, Stop>
     requires { slice_get script.now.nodes node.0 ≡ Some (node_is.Operator operator.now) }
     ensures plans { PlansAt script.now body cells.now heap.old heap.new (λ here. operator_program here node operator.now) result }
+    ensures named { (w v : World) → StandsFor heap.old w → IsSound w → StandsFor heap.new v → IsKnownRunning script.now v.lists body → NamesPlan script.now v.lists result }
     ensures retains { Retains heap.old heap.new }
 {
     match operator {
@@ -153,6 +164,7 @@ fn access_plan<L: Ledger>(
     steps: &mut Steps<L>,
 ) -> Result<Plan, Stop>
     ensures plans { PlansAt script.now body cells.now heap.old heap.new (λ here. access_program here node access.now) result }
+    ensures named { (w v : World) → StandsFor heap.old w → StandsFor heap.new v → NamesSites script.now access.now → NamesPlan script.now v.lists result }
     ensures retains { Retains heap.old heap.new }
 {
     match access {
@@ -189,6 +201,8 @@ fn node_plan<L: Ledger>(
     requires at { slice_get script.now.nodes node.0 ≡ Some found.now }
     ensures plans { PlansOf (context script.now body cells.old) (context script.now body cells.new) heap.old heap.new (λ here. node_of here name node (Some found.now)) result }
     ensures front { OnOk result (take (length cells.old) cells.new ≡ cells.old) }
+    ensures named { (w v : World) → w.script ≡ script.now → StandsFor heap.old w → IsSound w → StandsFor heap.new v → IsKnownRunning script.now v.lists body → NamesPlan script.now v.lists result }
+    ensures known { (w v : World) → StandsFor heap.old w → StandsFor heap.new v → AreCells v.lists cells.old → OnOk result (AreCells v.lists cells.new) }
     ensures retains { Retains heap.old heap.new }
 {
     match found {
@@ -214,6 +228,8 @@ fn node_at<L: Ledger>(
 ) -> Result<Plan, Stop>
     ensures plans { PlansOf (context script.now body cells.old) (context script.now body cells.new) heap.old heap.new (λ here. node_of here name node (slice_get here.script.nodes node.0)) result }
     ensures front { OnOk result (take (length cells.old) cells.new ≡ cells.old) }
+    ensures named { (w v : World) → w.script ≡ script.now → StandsFor heap.old w → IsSound w → StandsFor heap.new v → IsKnownRunning script.now v.lists body → NamesPlan script.now v.lists result }
+    ensures known { (w v : World) → StandsFor heap.old w → StandsFor heap.new v → AreCells v.lists cells.old → OnOk result (AreCells v.lists cells.new) }
     ensures retains { Retains heap.old heap.new }
 {
     if node.0 < script.nodes() {
@@ -225,7 +241,7 @@ fn node_at<L: Ledger>(
 }
 
 /// What a job does first. Here is the one place of a node's turn.
-#[tactic(auto, using(object_heap::specs::Stands::goes_none, object_heap::specs::Stands::goes_then, object_heap::specs::Stands::halts_at, object_heap::proofs::Retaining::retains_none, object_heap::proofs::Retaining::retains_then, crate::proofs::Planned::plans_then))]
+#[tactic(auto, using(object_heap::specs::Stands::goes_none, object_heap::specs::Stands::goes_then, object_heap::specs::Stands::halts_at, object_heap::proofs::Retaining::retains_none, object_heap::proofs::Retaining::retains_then, crate::proofs::PlansNamed::keeps_wait, crate::proofs::PlansNamed::keeps_enter, crate::proofs::PlansNamed::keeps_ask, crate::proofs::PlansNamed::keeps_last, crate::proofs::PlansNamed::keeps_end, crate::proofs::PlansNamed::keeps_stop, crate::proofs::PlansNamed::defines_plan, crate::proofs::PlansNamed::defines_none, crate::proofs::PlansNamed::defines_stop, crate::proofs::Planned::plans_then))]
 pub(crate) fn job_plan<L: Ledger>(
     heap: &mut Heap,
     script: &Checked,
@@ -236,6 +252,8 @@ pub(crate) fn job_plan<L: Ledger>(
 ) -> Result<Plan, Stop>
     ensures plans { PlansOf (context script.now body cells.old) (context script.now body cells.new) heap.old heap.new (λ here. job_program here job) result }
     ensures front { OnOk result (take (length cells.old) cells.new ≡ cells.old) }
+    ensures named { (w v : World) → w.script ≡ script.now → StandsFor heap.old w → IsSound w → StandsFor heap.new v → IsKnownRunning script.now v.lists body → NamesPlan script.now v.lists result }
+    ensures known { (w v : World) → StandsFor heap.old w → StandsFor heap.new v → AreCells v.lists cells.old → OnOk result (AreCells v.lists cells.new) }
     ensures retains { Retains heap.old heap.new }
 {
     match job {
@@ -259,6 +277,7 @@ fn item_valued<L: Ledger>(
     steps: &mut Steps<L>,
 ) -> Result<Plan, Stop>
     ensures plans { PlansAt script.now body cells.now heap.old heap.new (λ here. item_valued here item value) result }
+    ensures named { (w v : World) → StandsFor heap.old w → IsSound w → StandsFor heap.new v → HasNames script.now v.lists (names_of_item item) → IsKnown v.lists value → NamesPlan script.now v.lists result }
     ensures retains { Retains heap.old heap.new }
 {
     match item {
@@ -295,6 +314,8 @@ pub(crate) fn item_plan<L: Ledger>(
 ) -> Result<Plan, Stop>
     ensures plans { PlansIn (context script.now body cells.old) (context script.now body cells.new) heap.old heap.new (λ here. item_program here item (ended end)) result }
     ensures front { OnOk result (take (length cells.old) cells.new ≡ cells.old) }
+    ensures named { (w v : World) → StandsFor heap.old w → IsSound w → StandsFor heap.new v → HasNames script.now v.lists (names_of_item item) → IsKnownCompletion v.lists (ended end) → NamesPlan script.now v.lists result }
+    ensures known { (w v : World) → StandsFor heap.old w → StandsFor heap.new v → AreCells v.lists cells.old → OnOk result (AreCells v.lists cells.new) }
     ensures retains { Retains heap.old heap.new }
 {
     match item {

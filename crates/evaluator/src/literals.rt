@@ -13,6 +13,11 @@ ghost use Rattle.evaluator.specs.declared.items.Ending.TheVariants as ending;
 ghost use Rattle.evaluator.specs.declared.items.Plan.TheVariants as plan;
 ghost use Rattle.evaluator.specs.Values.{or_out, whole_of};
 ghost use Rattle.object_heap.specs.Retains.{Retains};
+ghost use Rattle.es_model.specs.World.{Lists, World};
+ghost use Rattle.object_heap.specs.Stands.{StandsFor};
+ghost use Rattle.es_model.specs.Sound.{IsSound};
+ghost use Rattle.es_model.specs.Kept.{IsKnownRunning};
+ghost use Rattle.evaluator.specs.Names.{NamesPlan};
 
 use crate::accesses::resolve;
 use crate::cells::Cells;
@@ -36,6 +41,7 @@ pub(crate) fn number<L: Ledger>(
     steps: &mut Steps<L>,
 ) -> Result<Plan, Stop>
     ensures plans { PlansAt script.now body cells.now heap.old heap.new (λ here. or_out (whole_of n) (λ m. gives (values.Whole m))) result }
+    ensures named { (l : Lists) → NamesPlan script.now l result }
     ensures retains { Retains heap.old heap.new }
 {
     match whole_of(n) {
@@ -53,6 +59,7 @@ pub(crate) fn text<L: Ledger>(
     steps: &mut Steps<L>,
 ) -> Result<Plan, Stop>
     ensures plans { PlansAt script.now body cells.now heap.old heap.new (λ here. make_text units.now (λ t. gives (values.Text t))) result }
+    ensures named { (l : Lists) → NamesPlan script.now l result }
     ensures retains { Retains heap.old heap.new }
 {
     let text = intern(heap, units)?;
@@ -71,6 +78,7 @@ fn object_literal<L: Ledger>(
 ) -> Result<Plan, Stop>
     requires { literal.0 < length script.now.literals }
     ensures plans { PlansOf (context script.now body cells.now) (context script.now body cells.now) heap.old heap.new (λ here. object_literal here node literal) result }
+    ensures named { (w v : World) → w.script ≡ script.now → StandsFor heap.old w → StandsFor heap.new v → NamesPlan script.now v.lists result }
     ensures retains { Retains heap.old heap.new }
 {
     let facts = *script.literal(literal);
@@ -102,6 +110,7 @@ pub(crate) fn primary_plan<L: Ledger>(
     requires parts { NamesParts script.now primary.now }
     requires at { slice_get script.now.nodes node.0 ≡ Some (node_of.Primary primary.now) }
     ensures plans { PlansOf (context script.now body cells.now) (context script.now body cells.now) heap.old heap.new (λ here. primary_program here name node primary.now) result }
+    ensures named { (w v : World) → w.script ≡ script.now → StandsFor heap.old w → IsSound w → StandsFor heap.new v → IsKnownRunning script.now v.lists body → NamesPlan script.now v.lists result }
     ensures retains { Retains heap.old heap.new }
 {
     match primary {

@@ -3,13 +3,13 @@
 ghost use Rattle.std.specs.Prelude.{◌≡◌, ◌++◌, ◌∷◌, ◌+◌, ◌<◌, ◌≤◌, [], ℕ, OnOk, Ok, length};
 ghost use Rattle.es_model.specs.Completions.{answered};
 ghost use Rattle.es_model.specs.Fits.{IsKnownCompletion};
-ghost use Rattle.es_model.specs.Kept.{IsKept};
+ghost use Rattle.es_model.specs.Kept.{IsKept, IsKnownRunning, AreCells};
 ghost use Rattle.es_model.specs.Known.{AreKnown, IsKnown, IsObject};
 ghost use Rattle.es_model.specs.Program.{Outcome, Program, Server, run as run_of};
 ghost use Rattle.es_model.specs.Sound.{IsSound};
 ghost use Rattle.es_model.specs.Stages.{Stage, outcome_at, stage_of, world_at};
 ghost use Rattle.es_model.specs.Unwinding.{Stays};
-ghost use Rattle.es_model.specs.World.{World};
+ghost use Rattle.es_model.specs.World.{Lists, World};
 ghost use Rattle.es_model.specs.declared.running.Part.TheVariants as part;
 ghost use Rattle.evaluator.specs.Contexts.{Context, context};
 ghost use Rattle.evaluator.specs.Frames.{IsStacked};
@@ -21,7 +21,10 @@ ghost use Rattle.evaluator.specs.declared.frames.Current.TheVariants.{At, EndedB
 ghost use Rattle.evaluator.specs.declared.items.Job.TheVariants as job;
 ghost use Rattle.object_heap.specs.Retains.{Retains};
 ghost use Rattle.object_heap.specs.Stands.{HeapView, StandsFor};
-ghost use Rattle.object_heap.specs.Turns.{IsTurnOf};
+ghost use Rattle.object_heap.specs.Turns.{IsTurnOf, KeepsNamed};
+ghost use Rattle.es_model.specs.Belongs.{Belongs, HasNames};
+ghost use Rattle.evaluator.specs.Names.{IsHereNamed, IsHereNext, IsKnownCurrent, NamesItems, NamesNext, NamesPlan, NamesTurn, names_of, names_of_asked, names_of_item};
+ghost use Rattle.es_tree.specs.Tree.{Tree};
 
 use crate::answers::asked_plan;
 use crate::cells::{Cells, make_cells};
@@ -53,6 +56,7 @@ fn follow(pending: &mut Vec<Pending>, before: usize, depth: usize, plan: Plan) -
     ensures next { (outer inner : Context) (S : Server) (n : ℕ) (old new : HeapView) (w : World) (stage : Stage) → IsInner outer inner → before ≡ length outer.cells → depth ≡ length inner.cells → Stays w (world_at stage) → Plans outer inner old new w stage (Ok plan) → IsNext inner S n (length pending.old.items + 2) (unwound inner S n pending.old.items (outcome_at S n stage)) old new w pending.new.items result }
     ensures sound { (outer inner : Context) (p : Program) (old new : HeapView) (w : World) → IsInner outer inner → before ≡ length outer.cells → depth ≡ length inner.cells → IsKept IsKnownCompletion p w → KeepsItems outer w pending.old.items → Plans outer inner old new w (stage_of p w) (Ok plan) → StaysSoundNext inner old new w pending.new.items result }
     ensures stacked { OnOk result (IsStacked 0 pending.new.items depth) }
+    ensures named { (script : Tree) (l : Lists) → NamesItems script l pending.old.items → NamesPlan script l (Ok plan) → NamesNext script l pending.new.items result }
 {
     match plan {
         Plan::Wait(job, item) => {
@@ -90,6 +94,8 @@ fn advance<L: Ledger>(
     ensures next { (S : Server) (n : ℕ) (w : World) → IsServer S → w.script ≡ script.now → StandsFor heap.old w → IsNext (context script.now body cells.new) S n (length pending.old.items + 2) (unwound (context script.now body cells.old) S n pending.old.items (S n (task_of (context script.now body cells.old) job) w)) heap.old heap.new w pending.new.items result }
     ensures sound { (w : World) → w.script ≡ script.now → StandsFor heap.old w → KeepsCurrent (context script.now body cells.old) w (At job) → KeepsItems (context script.now body cells.old) w pending.old.items → StaysSoundNext (context script.now body cells.new) heap.old heap.new w pending.new.items result }
     ensures stacked { OnOk result (IsStacked 0 pending.new.items (length cells.new)) }
+    ensures named { (w v : World) → w.script ≡ script.now → StandsFor heap.old w → IsSound w → StandsFor heap.new v → IsKnownRunning script.now v.lists body → NamesItems script.now v.lists pending.old.items → NamesNext script.now v.lists pending.new.items result }
+    ensures known { (w v : World) → StandsFor heap.old w → StandsFor heap.new v → AreCells v.lists cells.old → OnOk result (AreCells v.lists cells.new) }
     ensures retains { Retains heap.old heap.new }
 {
     let before = cells.len();
@@ -115,6 +121,8 @@ fn wake<L: Ledger>(
     ensures next { (S : Server) (n : ℕ) (w : World) → w.script ≡ script.now → StandsFor heap.old w → IsNext (context script.now body cells.new) S n (length pending.old.items + 2) (unwound (context script.now body cells.old) S n pending.old.items (pending_rest (context script.now body cells.old) S n entry (ended end) w)) heap.old heap.new w pending.new.items result }
     ensures sound { (w : World) → StandsFor heap.old w → KeepsCurrent (context script.now body cells.old) w (EndedBy end) → KeepsItem (context script.now body cells.old) w entry → KeepsItems (context script.now body cells.old) w pending.old.items → StaysSoundNext (context script.now body cells.new) heap.old heap.new w pending.new.items result }
     ensures stacked { OnOk result (IsStacked 0 pending.new.items (length cells.new)) }
+    ensures named { (w v : World) → StandsFor heap.old w → IsSound w → StandsFor heap.new v → HasNames script.now v.lists (names_of_item entry.item) → IsKnownCompletion v.lists (ended end) → NamesItems script.now v.lists pending.old.items → NamesNext script.now v.lists pending.new.items result }
+    ensures known { (w v : World) → StandsFor heap.old w → StandsFor heap.new v → AreCells v.lists cells.old → OnOk result (AreCells v.lists cells.new) }
     ensures retains { Retains heap.old heap.new }
 {
     let Pending { item, depth } = entry;
@@ -139,6 +147,8 @@ fn step<L: Ledger>(
     ensures next { (S : Server) (n : ℕ) (w : World) → IsServer S → w.script ≡ script.now → StandsFor heap.old w → IsNext (context script.now body cells.new) S n (height pending.old.items current) (meaning (context script.now body cells.old) S n pending.old.items current w) heap.old heap.new w pending.new.items result }
     ensures sound { (w : World) → w.script ≡ script.now → StandsFor heap.old w → KeepsCurrent (context script.now body cells.old) w current → KeepsItems (context script.now body cells.old) w pending.old.items → StaysSoundNext (context script.now body cells.new) heap.old heap.new w pending.new.items result }
     ensures stacked { OnOk result (IsStacked 0 pending.new.items (length cells.new)) }
+    ensures named { (w v : World) → w.script ≡ script.now → StandsFor heap.old w → IsSound w → StandsFor heap.new v → IsKnownRunning script.now v.lists body → IsKnownCurrent v.lists current → NamesItems script.now v.lists pending.old.items → NamesNext script.now v.lists pending.new.items result }
+    ensures known { (w v : World) → StandsFor heap.old w → StandsFor heap.new v → AreCells v.lists cells.old → OnOk result (AreCells v.lists cells.new) }
     ensures retains { Retains heap.old heap.new }
 {
     match current {
@@ -177,6 +187,7 @@ fn go<L: Ledger>(
     requires { IsStacked 0 pending.items (length cells) }
     ensures turn { (S : Server) (n : ℕ) (w : World) → IsServer S → w.script ≡ script.now → StandsFor heap.old w → IsTurnOf (eval_rest script.now) heap.old heap.new w S n (meaning (context script.now body cells) S n pending.items current w) result }
     ensures sound { (w : World) → w.script ≡ script.now → StandsFor heap.old w → KeepsCurrent (context script.now body cells) w current → KeepsItems (context script.now body cells) w pending.items → StaysSoundTurn script.now heap.old heap.new w result }
+    ensures belongs { (w v : World) → w.script ≡ script.now → StandsFor heap.old w → KeepsCurrent (context script.now body cells) w current → KeepsItems (context script.now body cells) w pending.items → IsHereNamed script.now w.lists body cells pending.items → StandsFor heap.new v → NamesTurn script.now v.lists result }
     ensures retains { Retains heap.old heap.new }
 {
     let mut left = Countdown::new(
@@ -240,6 +251,7 @@ fn run_statements<L: Ledger>(
 ) -> Result<Turn<EvalFrame>, Stop>
     ensures turn { (S : Server) (n : ℕ) (w : World) → IsServer S → w.script ≡ script.now → StandsFor heap.old w → IsTurnOf (eval_rest script.now) heap.old heap.new w S n (meaning (context script.now (script_body script.now) []) S n [] (At (job.Statements part.Script 0)) w) result }
     ensures sound { (w : World) → w.script ≡ script.now → StandsFor heap.old w → IsSound w → StaysSoundTurn script.now heap.old heap.new w result }
+    ensures belongs { (w v : World) → w.script ≡ script.now → StandsFor heap.old w → IsSound w → StandsFor heap.new v → NamesTurn script.now v.lists result }
     ensures retains { Retains heap.old heap.new }
 {
     let body = script_running(script);
@@ -253,6 +265,7 @@ fn run_statements<L: Ledger>(
 ///
 /// Halted comes exactly where a charge does not fit: one turn for each node that is evaluated, for each declared function and for each primitive base's prototype.
 /// Declared functions are not made yet, and throw undefined here.
+#[tactic(auto, using(object_heap::specs::Stands::goes_none, object_heap::specs::Stands::goes_then, object_heap::specs::Stands::halts_at, object_heap::proofs::Retaining::retains_none, object_heap::proofs::Retaining::retains_then, crate::proofs::PlansNamed::keeps_wait, crate::proofs::PlansNamed::keeps_enter, crate::proofs::PlansNamed::keeps_ask, crate::proofs::PlansNamed::keeps_last, crate::proofs::PlansNamed::keeps_end, crate::proofs::PlansNamed::keeps_stop, crate::proofs::PlansNamed::defines_plan, crate::proofs::PlansNamed::defines_none, crate::proofs::PlansNamed::defines_stop, object_heap::proofs::Turns::named_done, object_heap::proofs::Turns::named_stop))]
 pub fn start_script<L: Ledger>(
     heap: &mut Heap,
     script: &Checked,
@@ -260,6 +273,7 @@ pub fn start_script<L: Ledger>(
 ) -> Result<Turn<EvalFrame>, Stop>
     ensures turn { (S : Server) (n : ℕ) (w : World) → IsServer S → w.script ≡ script.now → StandsFor heap.old w → IsTurnOf (eval_rest script.now) heap.old heap.new w S n (run_of S (script_program script.now) n w) result }
     ensures sound { (w : World) → w.script ≡ script.now → StandsFor heap.old w → IsSound w → StaysSoundTurn script.now heap.old heap.new w result }
+    ensures belongs { (w v : World) → w.script ≡ script.now → StandsFor heap.old w → IsSound w → StandsFor heap.new v → v.script ≡ script.now → KeepsNamed names_of v result }
     ensures retains { Retains heap.old heap.new }
 {
     let mut top = Cells::new(heap.alloc());
@@ -284,6 +298,7 @@ pub fn start_body<L: Ledger>(
 ) -> Result<Turn<EvalFrame>, Stop>
     ensures turn { (S : Server) (n : ℕ) (w : World) → IsServer S → w.script ≡ script.now → StandsFor heap.old w → IsTurnOf (eval_rest script.now) heap.old heap.new w S n (run_of S (call_program script.now function callee this arguments) n w) result }
     ensures sound { (w : World) → w.script ≡ script.now → StandsFor heap.old w → IsSound w → function.0 < length script.now.functions → IsObject w.lists callee → IsKnown w.lists this → AreKnown w.lists arguments → StaysSoundTurn script.now heap.old heap.new w result }
+    ensures belongs { (v : World) → KeepsNamed names_of v result }
     ensures retains { Retains heap.old heap.new }
 {
     Ok(Turn::Done(Completion::Throw(Value::Undefined)))
@@ -301,6 +316,7 @@ fn continue_with<L: Ledger>(
     requires { IsStacked 0 pending.items (length cells) }
     ensures turn { (S : Server) (n a : ℕ) (o : Outcome) (old : HeapView) (w : World) → IsServer S → w.script ≡ script.now → IsNext (context script.now body cells) S n a o old heap.old w pending.items (Ok next) → IsTurnOf (eval_rest script.now) old heap.new w S n o result }
     ensures sound { (old : HeapView) (w : World) → w.script ≡ script.now → StaysSoundNext (context script.now body cells) old heap.old w pending.items (Ok next) → StaysSoundTurn script.now old heap.new w result }
+    ensures belongs { (old : HeapView) (w v : World) → w.script ≡ script.now → StaysSoundNext (context script.now body cells) old heap.old w pending.items (Ok next) → ((x : World) → StandsFor heap.old x → IsHereNext script.now x.lists body cells pending.items (Ok next)) → StandsFor heap.new v → NamesTurn script.now v.lists result }
     ensures retains { Retains heap.old heap.new }
 {
     match next {
@@ -324,6 +340,7 @@ fn take_answer<L: Ledger>(
     requires { IsStacked 0 pending.items (length cells) }
     ensures turn { (S : Server) (n : ℕ) (w : World) → IsServer S → w.script ≡ script.now → StandsFor heap.old w → IsTurnOf (eval_rest script.now) heap.old heap.new w S n (unwound (context script.now body cells) S n pending.items (run_of S (asked_program (context script.now body cells) asked (answered answer)) n w)) result }
     ensures sound { (w : World) → w.script ≡ script.now → StandsFor heap.old w → IsKept IsKnownCompletion (asked_program (context script.now body cells) asked (answered answer)) w → KeepsItems (context script.now body cells) w pending.items → StaysSoundTurn script.now heap.old heap.new w result }
+    ensures belongs { (w v : World) → w.script ≡ script.now → StandsFor heap.old w → IsSound w → IsKept IsKnownCompletion (asked_program (context script.now body cells) asked (answered answer)) w → KeepsItems (context script.now body cells) w pending.items → IsHereNamed script.now w.lists body cells pending.items → HasNames script.now w.lists (names_of_asked asked) → IsKnownCompletion w.lists (answered answer) → StandsFor heap.new v → NamesTurn script.now v.lists result }
     ensures retains { Retains heap.old heap.new }
 {
     let depth = cells.len();
@@ -348,6 +365,7 @@ pub fn resume<L: Ledger>(
 ) -> Result<Turn<EvalFrame>, Stop>
     ensures turn { (S : Server) (n : ℕ) (w : World) → IsServer S → w.script ≡ script.now → StandsFor heap.old w → IsTurnOf (eval_rest script.now) heap.old heap.new w S n (eval_rest script.now frame S n (answered answer) w) result }
     ensures sound { (w : World) → w.script ≡ script.now → StandsFor heap.old w → KeepsRest script.now w frame (answered answer) → StaysSoundTurn script.now heap.old heap.new w result }
+    ensures belongs { (w v : World) → w.script ≡ script.now → StandsFor heap.old w → IsSound w → KeepsRest script.now w frame (answered answer) → Belongs names_of w frame → IsKnownCompletion w.lists (answered answer) → StandsFor heap.new v → v.script ≡ script.now → KeepsNamed names_of v result }
     ensures retains { Retains heap.old heap.new }
 {
     let EvalFrame {

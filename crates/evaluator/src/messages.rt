@@ -5,6 +5,8 @@ ghost use Rattle.es_model.specs.programs.Errors.{not_a_constructor, throw_error}
 ghost use Rattle.evaluator.specs.Errors.{is_constant, not_an_object, not_defined, not_initialised, out_of_profile, refused, text_too_long, throw_joined, throw_named};
 ghost use Rattle.evaluator.specs.Plans.{PlansAt};
 ghost use Rattle.object_heap.specs.Retains.{Retains};
+ghost use Rattle.es_model.specs.World.{Lists};
+ghost use Rattle.evaluator.specs.Names.{NamesPlan};
 
 use crate::cells::Cells;
 use crate::items::{Ending, Plan};
@@ -25,6 +27,7 @@ fn throw_text<L: Ledger>(
 ) -> Result<Plan, Stop>
     requires { length message.now ≤ 100 }
     ensures plans { PlansAt script.now body cells.now heap.old heap.new (λ here. throw_error kind message.now) result }
+    ensures named { (l : Lists) → NamesPlan script.now l result }
     ensures retains { Retains heap.old heap.new }
 {
     let units = units_of(heap.alloc(), message)?;
@@ -34,7 +37,7 @@ fn throw_text<L: Ledger>(
 }
 
 /// An error whose message is one text after another.
-#[tactic(auto, using(object_heap::specs::Stands::goes_none, object_heap::specs::Stands::goes_then, object_heap::specs::Stands::halts_at, object_heap::proofs::Retaining::retains_none, object_heap::proofs::Retaining::retains_then, crate::proofs::Planned::plans_then))]
+#[tactic(auto, using(object_heap::specs::Stands::goes_none, object_heap::specs::Stands::goes_then, object_heap::specs::Stands::halts_at, object_heap::proofs::Retaining::retains_none, object_heap::proofs::Retaining::retains_then, crate::proofs::PlansNamed::keeps_wait, crate::proofs::PlansNamed::keeps_enter, crate::proofs::PlansNamed::keeps_ask, crate::proofs::PlansNamed::keeps_last, crate::proofs::PlansNamed::keeps_end, crate::proofs::PlansNamed::keeps_stop, crate::proofs::PlansNamed::defines_plan, crate::proofs::PlansNamed::defines_none, crate::proofs::PlansNamed::defines_stop, crate::proofs::Planned::plans_then))]
 fn throw_joined<L: Ledger>(
     heap: &mut Heap,
     script: &Checked,
@@ -46,6 +49,7 @@ fn throw_joined<L: Ledger>(
     steps: &mut Steps<L>,
 ) -> Result<Plan, Stop>
     ensures plans { PlansAt script.now body cells.now heap.old heap.new (λ here. throw_joined kind first second) result }
+    ensures named { (l : Lists) → NamesPlan script.now l result }
     ensures retains { Retains heap.old heap.new }
 {
     match join(heap, first, second)? {
@@ -58,7 +62,7 @@ fn throw_joined<L: Ledger>(
 }
 
 /// An error whose message is a name and an ending.
-#[tactic(auto, using(object_heap::specs::Stands::goes_none, object_heap::specs::Stands::goes_then, object_heap::specs::Stands::halts_at, object_heap::proofs::Retaining::retains_none, object_heap::proofs::Retaining::retains_then, crate::proofs::Planned::plans_then))]
+#[tactic(auto, using(object_heap::specs::Stands::goes_none, object_heap::specs::Stands::goes_then, object_heap::specs::Stands::halts_at, object_heap::proofs::Retaining::retains_none, object_heap::proofs::Retaining::retains_then, crate::proofs::PlansNamed::keeps_wait, crate::proofs::PlansNamed::keeps_enter, crate::proofs::PlansNamed::keeps_ask, crate::proofs::PlansNamed::keeps_last, crate::proofs::PlansNamed::keeps_end, crate::proofs::PlansNamed::keeps_stop, crate::proofs::PlansNamed::defines_plan, crate::proofs::PlansNamed::defines_none, crate::proofs::PlansNamed::defines_stop, crate::proofs::Planned::plans_then))]
 fn throw_name<L: Ledger>(
     heap: &mut Heap,
     script: &Checked,
@@ -71,6 +75,7 @@ fn throw_name<L: Ledger>(
 ) -> Result<Plan, Stop>
     requires { length ending.now ≤ 100 }
     ensures plans { PlansAt script.now body cells.now heap.old heap.new (λ here. throw_named kind ending.now name) result }
+    ensures named { (l : Lists) → NamesPlan script.now l result }
     ensures retains { Retains heap.old heap.new }
 {
     let units = units_of(heap.alloc(), ending)?;
@@ -86,6 +91,7 @@ pub(crate) fn out_of_profile<L: Ledger>(
     steps: &mut Steps<L>,
 ) -> Result<Plan, Stop>
     ensures plans { PlansAt script.now body cells.now heap.old heap.new (λ here. out_of_profile) result }
+    ensures named { (l : Lists) → NamesPlan script.now l result }
     ensures retains { Retains heap.old heap.new }
 {
     throw_text(
@@ -107,6 +113,7 @@ pub(crate) fn text_too_long<L: Ledger>(
     steps: &mut Steps<L>,
 ) -> Result<Plan, Stop>
     ensures plans { PlansAt script.now body cells.now heap.old heap.new (λ here. text_too_long) result }
+    ensures named { (l : Lists) → NamesPlan script.now l result }
     ensures retains { Retains heap.old heap.new }
 {
     throw_text(
@@ -128,6 +135,7 @@ pub(crate) fn not_an_object<L: Ledger>(
     steps: &mut Steps<L>,
 ) -> Result<Plan, Stop>
     ensures plans { PlansAt script.now body cells.now heap.old heap.new (λ here. not_an_object) result }
+    ensures named { (l : Lists) → NamesPlan script.now l result }
     ensures retains { Retains heap.old heap.new }
 {
     throw_text(
@@ -149,6 +157,7 @@ pub(crate) fn refused<L: Ledger>(
     steps: &mut Steps<L>,
 ) -> Result<Plan, Stop>
     ensures plans { PlansAt script.now body cells.now heap.old heap.new (λ here. refused) result }
+    ensures named { (l : Lists) → NamesPlan script.now l result }
     ensures retains { Retains heap.old heap.new }
 {
     throw_text(
@@ -170,6 +179,7 @@ pub(crate) fn not_a_constructor<L: Ledger>(
     steps: &mut Steps<L>,
 ) -> Result<Plan, Stop>
     ensures plans { PlansAt script.now body cells.now heap.old heap.new (λ here. not_a_constructor) result }
+    ensures named { (l : Lists) → NamesPlan script.now l result }
     ensures retains { Retains heap.old heap.new }
 {
     throw_text(
@@ -192,6 +202,7 @@ pub(crate) fn not_defined<L: Ledger>(
     steps: &mut Steps<L>,
 ) -> Result<Plan, Stop>
     ensures plans { PlansAt script.now body cells.now heap.old heap.new (λ here. not_defined name) result }
+    ensures named { (l : Lists) → NamesPlan script.now l result }
     ensures retains { Retains heap.old heap.new }
 {
     throw_name(
@@ -215,6 +226,7 @@ pub(crate) fn not_initialised<L: Ledger>(
     steps: &mut Steps<L>,
 ) -> Result<Plan, Stop>
     ensures plans { PlansAt script.now body cells.now heap.old heap.new (λ here. not_initialised name) result }
+    ensures named { (l : Lists) → NamesPlan script.now l result }
     ensures retains { Retains heap.old heap.new }
 {
     throw_name(
@@ -238,6 +250,7 @@ pub(crate) fn is_constant<L: Ledger>(
     steps: &mut Steps<L>,
 ) -> Result<Plan, Stop>
     ensures plans { PlansAt script.now body cells.now heap.old heap.new (λ here. is_constant name) result }
+    ensures named { (l : Lists) → NamesPlan script.now l result }
     ensures retains { Retains heap.old heap.new }
 {
     throw_name(

@@ -9,6 +9,14 @@ ghost use Rattle.evaluator.specs.declared.items.Item.TheVariants as item_of;
 ghost use Rattle.evaluator.specs.declared.items.Job.TheVariants as job;
 ghost use Rattle.evaluator.specs.declared.items.Plan.TheVariants as plan;
 ghost use Rattle.object_heap.specs.Retains.{Retains};
+ghost use Rattle.es_model.specs.World.{Lists, World};
+ghost use Rattle.object_heap.specs.Stands.{StandsFor};
+ghost use Rattle.es_model.specs.Sound.{IsSound};
+ghost use Rattle.es_model.specs.Known.{IsKnown};
+ghost use Rattle.es_tree.specs.Tree.{NamesSites, NamesKnown};
+ghost use Rattle.es_model.specs.Belongs.{HasNames};
+ghost use Rattle.es_model.specs.Kept.{IsKnownRunning};
+ghost use Rattle.evaluator.specs.Names.{NamesPlan, names_of_operator, names_of_reference};
 
 use crate::accesses::{access_target, resolve};
 use crate::arithmetic::apply;
@@ -45,6 +53,7 @@ pub(crate) fn typeof_value<L: Ledger>(
     steps: &mut Steps<L>,
 ) -> Result<Plan, Stop>
     ensures plans { PlansAt script.now body cells.now heap.old heap.new (λ here. typeof_value value) result }
+    ensures named { (l : Lists) → NamesPlan script.now l result }
     ensures retains { Retains heap.old heap.new }
 {
     let text = type_text(heap, value)?;
@@ -60,6 +69,7 @@ pub(crate) fn typeof_reference<L: Ledger>(
     steps: &mut Steps<L>,
 ) -> Result<Plan, Stop>
     ensures plans { PlansAt script.now body cells.now heap.old heap.new (λ here. typeof_reference here reference) result }
+    ensures named { (w v : World) → StandsFor heap.old w → IsSound w → StandsFor heap.new v → HasNames script.now v.lists (names_of_reference reference) → NamesPlan script.now v.lists result }
     ensures retains { Retains heap.old heap.new }
 {
     match reference {
@@ -85,7 +95,7 @@ pub(crate) fn typeof_reference<L: Ledger>(
     }
 }
 
-#[tactic(auto, using(object_heap::specs::Stands::goes_none, object_heap::specs::Stands::goes_then, object_heap::specs::Stands::halts_at, object_heap::proofs::Retaining::retains_none, object_heap::proofs::Retaining::retains_then, crate::proofs::Planned::plans_then))]
+#[tactic(auto, using(object_heap::specs::Stands::goes_none, object_heap::specs::Stands::goes_then, object_heap::specs::Stands::halts_at, object_heap::proofs::Retaining::retains_none, object_heap::proofs::Retaining::retains_then, crate::proofs::PlansNamed::keeps_wait, crate::proofs::PlansNamed::keeps_enter, crate::proofs::PlansNamed::keeps_ask, crate::proofs::PlansNamed::keeps_last, crate::proofs::PlansNamed::keeps_end, crate::proofs::PlansNamed::keeps_stop, crate::proofs::PlansNamed::defines_plan, crate::proofs::PlansNamed::defines_none, crate::proofs::PlansNamed::defines_stop, crate::proofs::Planned::plans_then))]
 fn typeof_name<L: Ledger>(
     heap: &mut Heap,
     script: &Checked,
@@ -96,6 +106,7 @@ fn typeof_name<L: Ledger>(
     steps: &mut Steps<L>,
 ) -> Result<Plan, Stop>
     ensures plans { PlansAt script.now body cells.now heap.old heap.new (λ here. typeof_at here operand (Some (node_of.Primary primary.now))) result }
+    ensures named { (w v : World) → StandsFor heap.old w → IsSound w → StandsFor heap.new v → IsKnownRunning script.now v.lists body → NamesPlan script.now v.lists result }
     ensures retains { Retains heap.old heap.new }
 {
     match primary {
@@ -131,6 +142,7 @@ fn typeof_node<L: Ledger>(
     steps: &mut Steps<L>,
 ) -> Result<Plan, Stop>
     ensures plans { PlansAt script.now body cells.now heap.old heap.new (λ here. typeof_at here operand (Some node.now)) result }
+    ensures named { (w v : World) → StandsFor heap.old w → IsSound w → StandsFor heap.new v → IsKnownRunning script.now v.lists body → NamesPlan script.now v.lists result }
     ensures retains { Retains heap.old heap.new }
 {
     match node {
@@ -155,6 +167,7 @@ fn delete_access<L: Ledger>(
     steps: &mut Steps<L>,
 ) -> Result<Plan, Stop>
     ensures plans { PlansAt script.now body cells.now heap.old heap.new (λ here. delete_at here operand (Some (node_of.Access access.now))) result }
+    ensures named { (w v : World) → StandsFor heap.old w → StandsFor heap.new v → NamesSites script.now access.now → NamesPlan script.now v.lists result }
     ensures retains { Retains heap.old heap.new }
 {
     match access {
@@ -184,6 +197,7 @@ fn delete_node<L: Ledger>(
     steps: &mut Steps<L>,
 ) -> Result<Plan, Stop>
     ensures plans { PlansAt script.now body cells.now heap.old heap.new (λ here. delete_at here operand (Some node.now)) result }
+    ensures named { (w v : World) → StandsFor heap.old w → StandsFor heap.new v → NamesKnown script.now node.now → NamesPlan script.now v.lists result }
     ensures retains { Retains heap.old heap.new }
 {
     match node {
@@ -203,6 +217,7 @@ fn delete<L: Ledger>(
     steps: &mut Steps<L>,
 ) -> Result<Plan, Stop>
     ensures plans { PlansAt script.now body cells.now heap.old heap.new (λ here. unary_expression here unary.Delete operand) result }
+    ensures named { (w v : World) → StandsFor heap.old w → StandsFor heap.new v → NamesPlan script.now v.lists result }
     ensures retains { Retains heap.old heap.new }
 {
     match node_at(script, operand) {
@@ -220,6 +235,7 @@ fn type_of<L: Ledger>(
     steps: &mut Steps<L>,
 ) -> Result<Plan, Stop>
     ensures plans { PlansAt script.now body cells.now heap.old heap.new (λ here. unary_expression here unary.Typeof operand) result }
+    ensures named { (w v : World) → StandsFor heap.old w → IsSound w → StandsFor heap.new v → IsKnownRunning script.now v.lists body → NamesPlan script.now v.lists result }
     ensures retains { Retains heap.old heap.new }
 {
     match node_at(script, operand) {
@@ -245,6 +261,7 @@ pub(crate) fn unary_expression<L: Ledger>(
     steps: &mut Steps<L>,
 ) -> Result<Plan, Stop>
     ensures plans { PlansAt script.now body cells.now heap.old heap.new (λ here. unary_expression here operator operand) result }
+    ensures named { (w v : World) → StandsFor heap.old w → IsSound w → StandsFor heap.new v → IsKnownRunning script.now v.lists body → NamesPlan script.now v.lists result }
     ensures retains { Retains heap.old heap.new }
 {
     match operator {
@@ -267,6 +284,7 @@ fn is_in<L: Ledger>(
     steps: &mut Steps<L>,
 ) -> Result<Plan, Stop>
     ensures plans { PlansAt script.now body cells.now heap.old heap.new (λ here. is_in left right) result }
+    ensures named { (l : Lists) → IsKnown l right → NamesPlan script.now l result }
     ensures retains { Retains heap.old heap.new }
 {
     match right {
@@ -304,6 +322,7 @@ fn compare<L: Ledger>(
     steps: &mut Steps<L>,
 ) -> Result<Plan, Stop>
     ensures plans { PlansAt script.now body cells.now heap.old heap.new (λ here. compare here operator a b) result }
+    ensures named { (l : Lists) → IsKnown l a → IsKnown l b → NamesPlan script.now l result }
     ensures retains { Retains heap.old heap.new }
 {
     let given = Asked::Flag(FlagAsked::FlagGiven);
@@ -411,6 +430,7 @@ fn short_value<L: Ledger>(
     steps: &mut Steps<L>,
 ) -> Result<Plan, Stop>
     ensures plans { PlansAt script.now body cells.now heap.old heap.new (λ here. short_value here operator right value) result }
+    ensures named { (l : Lists) → NamesPlan script.now l result }
     ensures retains { Retains heap.old heap.new }
 {
     if goes_right(heap, operator, value) {
@@ -434,6 +454,7 @@ fn test_value<L: Ledger>(
     steps: &mut Steps<L>,
 ) -> Result<Plan, Stop>
     ensures plans { PlansAt script.now body cells.now heap.old heap.new (λ here. test_value here then otherwise value) result }
+    ensures named { (l : Lists) → NamesPlan script.now l result }
     ensures retains { Retains heap.old heap.new }
 {
     let node = if heap.is_truth(value) {
@@ -456,6 +477,7 @@ pub(crate) fn comma_from<L: Ledger>(
     steps: &mut Steps<L>,
 ) -> Result<Plan, Stop>
     ensures plans { PlansAt script.now body cells.now heap.old heap.new (λ here. comma_from here (drop next (comma_at here node)) value) result }
+    ensures named { (l : Lists) → NamesPlan script.now l result }
     ensures retains { Retains heap.old heap.new }
 {
     match comma_at(script, node, next) {
@@ -481,6 +503,7 @@ pub(crate) fn operator_valued<L: Ledger>(
     steps: &mut Steps<L>,
 ) -> Result<Plan, Stop>
     ensures plans { PlansAt script.now body cells.now heap.old heap.new (λ here. operator_valued here item value) result }
+    ensures named { (l : Lists) → HasNames script.now l (names_of_operator item) → IsKnown l value → NamesPlan script.now l result }
     ensures retains { Retains heap.old heap.new }
 {
     match item {

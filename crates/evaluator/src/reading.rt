@@ -9,6 +9,13 @@ ghost use Rattle.evaluator.specs.declared.items.Plan.TheVariants as plan;
 ghost use Rattle.evaluator.specs.Plans.{PlansAt, reading_program, reading_valued};
 ghost use Rattle.evaluator.specs.References.{get_above, get_in_text, get_named, get_of, get_unit, get_value, got_again};
 ghost use Rattle.object_heap.specs.Retains.{Retains};
+ghost use Rattle.es_model.specs.World.{Lists, World};
+ghost use Rattle.object_heap.specs.Stands.{StandsFor};
+ghost use Rattle.es_model.specs.Sound.{IsSound};
+ghost use Rattle.es_model.specs.Known.{IsKnown};
+ghost use Rattle.es_tree.specs.Tree.{IsSite};
+ghost use Rattle.es_model.specs.Belongs.{HasNames};
+ghost use Rattle.evaluator.specs.Names.{NamesPlan, names_of_reading, names_of_reference};
 
 use crate::calls::arguments_from;
 use crate::cells::Cells;
@@ -53,6 +60,7 @@ pub(crate) fn reading_valued<L: Ledger>(
     steps: &mut Steps<L>,
 ) -> Result<Plan, Stop>
     ensures plans { PlansAt script.now body cells.now heap.old heap.new (λ here. reading_valued here reading value) result }
+    ensures named { (w v : World) → StandsFor heap.old w → StandsFor heap.new v → HasNames script.now v.lists (names_of_reading reading) → IsKnown v.lists value → NamesPlan script.now v.lists result }
     ensures retains { Retains heap.old heap.new }
 {
     match reading {
@@ -111,6 +119,7 @@ fn get_above<L: Ledger>(
     steps: &mut Steps<L>,
 ) -> Result<Plan, Stop>
     ensures plans { PlansAt script.now body cells.now heap.old heap.new (λ here. get_above class base key site (reading_program here reading)) result }
+    ensures named { (l : Lists) → HasNames script.now l (names_of_reading reading) → IsSite script.now site → NamesPlan script.now l result }
     ensures retains { Retains heap.old heap.new }
 {
     heap.charge(1)?;
@@ -123,7 +132,7 @@ fn get_above<L: Ledger>(
     Ok(Plan::Ask(request, Asked::Value(ValueAsked::Read(reading))))
 }
 
-#[tactic(auto, using(object_heap::specs::Stands::goes_none, object_heap::specs::Stands::goes_then, object_heap::specs::Stands::halts_at, object_heap::proofs::Retaining::retains_none, object_heap::proofs::Retaining::retains_then, crate::proofs::Planned::plans_then))]
+#[tactic(auto, using(object_heap::specs::Stands::goes_none, object_heap::specs::Stands::goes_then, object_heap::specs::Stands::halts_at, object_heap::proofs::Retaining::retains_none, object_heap::proofs::Retaining::retains_then, crate::proofs::PlansNamed::keeps_wait, crate::proofs::PlansNamed::keeps_enter, crate::proofs::PlansNamed::keeps_ask, crate::proofs::PlansNamed::keeps_last, crate::proofs::PlansNamed::keeps_end, crate::proofs::PlansNamed::keeps_stop, crate::proofs::PlansNamed::defines_plan, crate::proofs::PlansNamed::defines_none, crate::proofs::PlansNamed::defines_stop, crate::proofs::Planned::plans_then))]
 fn get_unit<L: Ledger>(
     heap: &mut Heap,
     script: &Checked,
@@ -137,6 +146,7 @@ fn get_unit<L: Ledger>(
     steps: &mut Steps<L>,
 ) -> Result<Plan, Stop>
     ensures plans { PlansAt script.now body cells.now heap.old heap.new (λ here. get_unit text (Index index) site (reading_program here reading) unit) result }
+    ensures named { (w v : World) → StandsFor heap.old w → StandsFor heap.new v → HasNames script.now v.lists (names_of_reading reading) → IsSite script.now site → NamesPlan script.now v.lists result }
     ensures retains { Retains heap.old heap.new }
 {
     match unit {
@@ -171,6 +181,7 @@ fn get_named<L: Ledger>(
     steps: &mut Steps<L>,
 ) -> Result<Plan, Stop>
     ensures plans { PlansAt script.now body cells.now heap.old heap.new (λ here. get_named text name site (reading_program here reading)) result }
+    ensures named { (w v : World) → StandsFor heap.old w → StandsFor heap.new v → HasNames script.now v.lists (names_of_reading reading) → IsSite script.now site → NamesPlan script.now v.lists result }
     ensures retains { Retains heap.old heap.new }
 {
     if name == StartText::Length.number() {
@@ -213,6 +224,7 @@ fn get_in_text<L: Ledger>(
     steps: &mut Steps<L>,
 ) -> Result<Plan, Stop>
     ensures plans { PlansAt script.now body cells.now heap.old heap.new (λ here. get_in_text text key site (reading_program here reading)) result }
+    ensures named { (w v : World) → StandsFor heap.old w → StandsFor heap.new v → HasNames script.now v.lists (names_of_reading reading) → IsSite script.now site → NamesPlan script.now v.lists result }
     ensures retains { Retains heap.old heap.new }
 {
     match key {
@@ -252,6 +264,7 @@ fn get_of<L: Ledger>(
     steps: &mut Steps<L>,
 ) -> Result<Plan, Stop>
     ensures plans { PlansAt script.now body cells.now heap.old heap.new (λ here. get_of base key site (reading_program here reading)) result }
+    ensures named { (w v : World) → StandsFor heap.old w → StandsFor heap.new v → HasNames script.now v.lists (names_of_reading reading) → IsSite script.now site → NamesPlan script.now v.lists result }
     ensures retains { Retains heap.old heap.new }
 {
     match base {
@@ -320,6 +333,7 @@ pub(crate) fn got_again<L: Ledger>(
     steps: &mut Steps<L>,
 ) -> Result<Plan, Stop>
     ensures plans { PlansAt script.now body cells.now heap.old heap.new (λ here. got_again here name key (reading_program here reading) present) result }
+    ensures named { (w v : World) → StandsFor heap.old w → StandsFor heap.new v → HasNames script.now v.lists (names_of_reading reading) → NamesPlan script.now v.lists result }
     ensures retains { Retains heap.old heap.new }
 {
     if present {
@@ -349,6 +363,7 @@ pub(crate) fn get_value<L: Ledger>(
     steps: &mut Steps<L>,
 ) -> Result<Plan, Stop>
     ensures plans { PlansAt script.now body cells.now heap.old heap.new (λ here. get_value here reference (reading_program here reading)) result }
+    ensures named { (w v : World) → StandsFor heap.old w → IsSound w → StandsFor heap.new v → HasNames script.now v.lists (names_of_reference reference) → HasNames script.now v.lists (names_of_reading reading) → NamesPlan script.now v.lists result }
     ensures retains { Retains heap.old heap.new }
 {
     match reference {

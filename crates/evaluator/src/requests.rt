@@ -7,6 +7,9 @@ ghost use Rattle.std.specs.Prelude.{◌∷◌, []};
 ghost use Rattle.es_model.specs.Program.{ask};
 ghost use Rattle.es_model.specs.declared.requests.Request.TheVariants.{Work};
 ghost use Rattle.object_heap.specs.Retains.{Retains};
+ghost use Rattle.es_model.specs.World.{Lists};
+ghost use Rattle.es_model.specs.Belongs.{HasNames};
+ghost use Rattle.evaluator.specs.Names.{NamesPlan, names_of_asked};
 
 use crate::cells::Cells;
 use crate::items::{Asked, Plan};
@@ -27,6 +30,7 @@ pub(crate) fn convert<L: Ledger>(
     steps: &mut Steps<L>,
 ) -> Result<Plan, Stop>
     ensures plans { PlansAt script.now body cells.now heap.old heap.new (λ here. convert operation value (asked_program here next)) result }
+    ensures named { (l : Lists) → HasNames script.now l (names_of_asked next) → NamesPlan script.now l result }
     ensures retains { Retains heap.old heap.new }
 {
     let mut operands = Values::new(heap.alloc());
@@ -51,6 +55,7 @@ pub(crate) fn ask_of_two<L: Ledger>(
     steps: &mut Steps<L>,
 ) -> Result<Plan, Stop>
     ensures plans { PlansAt script.now body cells.now heap.old heap.new (λ here. ask (Work operation (a ∷ b ∷ [])) (asked_program here next)) result }
+    ensures named { (l : Lists) → HasNames script.now l (names_of_asked next) → NamesPlan script.now l result }
     ensures retains { Retains heap.old heap.new }
 {
     let mut operands = Values::new(heap.alloc());
@@ -76,6 +81,7 @@ pub(crate) fn is_less<L: Ledger>(
     steps: &mut Steps<L>,
 ) -> Result<Plan, Stop>
     ensures plans { PlansAt script.now body cells.now heap.old heap.new (λ here. is_less a b left_first (asked_program here next)) result }
+    ensures named { (l : Lists) → HasNames script.now l (names_of_asked next) → NamesPlan script.now l result }
     ensures retains { Retains heap.old heap.new }
 {
     let mut operands = Values::new(heap.alloc());

@@ -11,6 +11,12 @@ ghost use Rattle.evaluator.specs.declared.items.Job.TheVariants as job;
 ghost use Rattle.evaluator.specs.declared.items.Plan.TheVariants as plan;
 ghost use Rattle.evaluator.specs.declared.items.StatementItem.TheVariants as statement_of;
 ghost use Rattle.object_heap.specs.Retains.{Retains};
+ghost use Rattle.es_model.specs.World.{Lists, World};
+ghost use Rattle.object_heap.specs.Stands.{StandsFor};
+ghost use Rattle.es_model.specs.Belongs.{HasNames};
+ghost use Rattle.es_model.specs.Kept.{AreCells};
+ghost use Rattle.es_model.specs.Fits.{IsKnownCompletion};
+ghost use Rattle.evaluator.specs.Names.{NamesPlan, names_of_statement};
 
 use crate::cells::Cells;
 use crate::declarations::{declare_from, declared_valued};
@@ -35,6 +41,7 @@ fn return_statement<L: Ledger>(
     steps: &mut Steps<L>,
 ) -> Result<Plan, Stop>
     ensures plans { PlansAt script.now body cells.now heap.old heap.new (λ here. return_statement here value) result }
+    ensures named { (l : Lists) → NamesPlan script.now l result }
     ensures retains { Retains heap.old heap.new }
 {
     match value {
@@ -55,6 +62,7 @@ fn declaration<L: Ledger>(
 ) -> Result<Plan, Stop>
     requires { slice_get script.now.nodes node.0 ≡ Some (node_of.Statement statement.now) }
     ensures plans { PlansAt script.now body cells.now heap.old heap.new (λ here. declare_all here (declared_in (Some (node_of.Statement statement.now)))) result }
+    ensures named { (l : Lists) → NamesPlan script.now l result }
     ensures retains { Retains heap.old heap.new }
 {
     declare_from(heap, script, body, cells, node, 0, steps)
@@ -71,6 +79,8 @@ fn try_statement<L: Ledger>(
 ) -> Result<Plan, Stop>
     ensures plans { PlansIn (context script.now body cells.old) (context script.now body cells.new) heap.old heap.new (λ here. block_then here block.now (part_of.Tried node) (tried_ended here node)) result }
     ensures front { OnOk result (take (length cells.old) cells.new ≡ cells.old) }
+    ensures named { (l : Lists) → NamesPlan script.now l result }
+    ensures known { (w v : World) → StandsFor heap.old w → StandsFor heap.new v → AreCells v.lists cells.old → OnOk result (AreCells v.lists cells.new) }
     ensures retains { Retains heap.old heap.new }
 {
     let list = Part::Tried(node);
@@ -97,6 +107,8 @@ pub(crate) fn statement_plan<L: Ledger>(
     requires { slice_get script.now.nodes node.0 ≡ Some (node_of.Statement statement.now) }
     ensures plans { PlansIn (context script.now body cells.old) (context script.now body cells.new) heap.old heap.new (λ here. statement_program here node statement.now) result }
     ensures front { OnOk result (take (length cells.old) cells.new ≡ cells.old) }
+    ensures named { (l : Lists) → NamesPlan script.now l result }
+    ensures known { (w v : World) → StandsFor heap.old w → StandsFor heap.new v → AreCells v.lists cells.old → OnOk result (AreCells v.lists cells.new) }
     ensures retains { Retains heap.old heap.new }
 {
     match statement {
@@ -138,6 +150,8 @@ pub(crate) fn statement_item_plan<L: Ledger>(
 ) -> Result<Plan, Stop>
     ensures plans { PlansIn (context script.now body cells.old) (context script.now body cells.new) heap.old heap.new (λ here. statement_item here item (ended end)) result }
     ensures front { OnOk result (take (length cells.old) cells.new ≡ cells.old) }
+    ensures named { (l : Lists) → HasNames script.now l (names_of_statement item) → IsKnownCompletion l (ended end) → NamesPlan script.now l result }
+    ensures known { (w v : World) → StandsFor heap.old w → StandsFor heap.new v → AreCells v.lists cells.old → OnOk result (AreCells v.lists cells.new) }
     ensures retains { Retains heap.old heap.new }
 {
     match item {

@@ -13,6 +13,11 @@ ghost use Rattle.evaluator.specs.declared.items.Item.TheVariants as item_of;
 ghost use Rattle.evaluator.specs.declared.items.Job.TheVariants as job;
 ghost use Rattle.evaluator.specs.declared.items.Plan.TheVariants as plan;
 ghost use Rattle.object_heap.specs.Retains.{Retains};
+ghost use Rattle.es_model.specs.World.{Lists, World};
+ghost use Rattle.object_heap.specs.Stands.{StandsFor};
+ghost use Rattle.es_model.specs.Belongs.{HasNames};
+ghost use Rattle.es_model.specs.Kept.{AreCells};
+ghost use Rattle.evaluator.specs.Names.{NamesPlan, names_of_statement};
 
 use crate::cells::{Cells, make_cells};
 use crate::endings::value_of;
@@ -55,6 +60,8 @@ pub(crate) fn block_last<L: Ledger>(
 ) -> Result<Plan, Stop>
     ensures plans { PlansIn (context script.now body cells.old) (context script.now body cells.new) heap.old heap.new (λ here. enter_scope here names (λ inner. statements inner list zero)) result }
     ensures front { OnOk result (take (length cells.old) cells.new ≡ cells.old) }
+    ensures named { (l : Lists) → NamesPlan script.now l result }
+    ensures known { (w v : World) → StandsFor heap.old w → StandsFor heap.new v → AreCells v.lists cells.old → OnOk result (AreCells v.lists cells.new) }
     ensures retains { Retains heap.old heap.new }
 {
     make_cells(heap, cells, names)?;
@@ -74,6 +81,8 @@ pub(crate) fn block_then<L: Ledger>(
 ) -> Result<Plan, Stop>
     ensures plans { PlansIn (context script.now body cells.old) (context script.now body cells.new) heap.old heap.new (λ here. enter_scope here names (λ inner. part (Statements inner.body inner.cells list zero) (statement_item here item))) result }
     ensures front { OnOk result (take (length cells.old) cells.new ≡ cells.old) }
+    ensures named { (l : Lists) → HasNames script.now l (names_of_statement item) → NamesPlan script.now l result }
+    ensures known { (w v : World) → StandsFor heap.old w → StandsFor heap.new v → AreCells v.lists cells.old → OnOk result (AreCells v.lists cells.new) }
     ensures retains { Retains heap.old heap.new }
 {
     let depth = cells.len();
@@ -93,6 +102,7 @@ pub(crate) fn next_statement<L: Ledger>(
     steps: &mut Steps<L>,
 ) -> Result<Plan, Stop>
     ensures plans { PlansAt script.now body cells.now heap.old heap.new (λ here. statement_at here list i (slice_get (statements_of here.script list) i)) result }
+    ensures named { (l : Lists) → NamesPlan script.now l result }
     ensures retains { Retains heap.old heap.new }
 {
     match statement_at(script, list, i) {
@@ -121,6 +131,7 @@ fn for_round<L: Ledger>(
     steps: &mut Steps<L>,
 ) -> Result<Plan, Stop>
     ensures plans { PlansAt script.now body cells.now heap.old heap.new (λ here. for_round here node test step statement) result }
+    ensures named { (l : Lists) → NamesPlan script.now l result }
     ensures retains { Retains heap.old heap.new }
 {
     match test {
@@ -146,6 +157,7 @@ fn round_statement<L: Ledger>(
     steps: &mut Steps<L>,
 ) -> Result<Plan, Stop>
     ensures plans { PlansAt script.now body cells.now heap.old heap.new (λ here. round_of here node (Some (node_of.Statement statement.now))) result }
+    ensures named { (l : Lists) → NamesPlan script.now l result }
     ensures retains { Retains heap.old heap.new }
 {
     match statement {
@@ -181,6 +193,7 @@ fn round_node<L: Ledger>(
     steps: &mut Steps<L>,
 ) -> Result<Plan, Stop>
     ensures plans { PlansAt script.now body cells.now heap.old heap.new (λ here. round_of here node (Some found.now)) result }
+    ensures named { (l : Lists) → NamesPlan script.now l result }
     ensures retains { Retains heap.old heap.new }
 {
     match found {
@@ -201,6 +214,7 @@ pub(crate) fn round<L: Ledger>(
     steps: &mut Steps<L>,
 ) -> Result<Plan, Stop>
     ensures plans { PlansAt script.now body cells.now heap.old heap.new (λ here. round_of here node (slice_get here.script.nodes node.0)) result }
+    ensures named { (l : Lists) → NamesPlan script.now l result }
     ensures retains { Retains heap.old heap.new }
 {
     match node_at(script, node) {
@@ -220,6 +234,7 @@ pub(crate) fn for_again<L: Ledger>(
     steps: &mut Steps<L>,
 ) -> Result<Plan, Stop>
     ensures plans { PlansAt script.now body cells.now heap.old heap.new (λ here. for_again here node step (ended end)) result }
+    ensures named { (l : Lists) → NamesPlan script.now l result }
     ensures retains { Retains heap.old heap.new }
 {
     match end {
@@ -243,6 +258,7 @@ pub(crate) fn while_again<L: Ledger>(
     steps: &mut Steps<L>,
 ) -> Result<Plan, Stop>
     ensures plans { PlansAt script.now body cells.now heap.old heap.new (λ here. while_again here node (ended end)) result }
+    ensures named { (l : Lists) → NamesPlan script.now l result }
     ensures retains { Retains heap.old heap.new }
 {
     match end {
@@ -263,6 +279,7 @@ pub(crate) fn for_begun<L: Ledger>(
     steps: &mut Steps<L>,
 ) -> Result<Plan, Stop>
     ensures plans { PlansAt script.now body cells.now heap.old heap.new (λ here. for_begun here node (ended end)) result }
+    ensures named { (l : Lists) → NamesPlan script.now l result }
     ensures retains { Retains heap.old heap.new }
 {
     match end {
@@ -285,6 +302,7 @@ pub(crate) fn after_statement<L: Ledger>(
     steps: &mut Steps<L>,
 ) -> Result<Plan, Stop>
     ensures plans { PlansAt script.now body cells.now heap.old heap.new (λ here. after_statement here list next (ended end)) result }
+    ensures named { (l : Lists) → NamesPlan script.now l result }
     ensures retains { Retains heap.old heap.new }
 {
     match end {
@@ -317,6 +335,7 @@ pub(crate) fn while_valued<L: Ledger>(
     steps: &mut Steps<L>,
 ) -> Result<Plan, Stop>
     ensures plans { PlansAt script.now body cells.now heap.old heap.new (λ here. while_valued here node statement (ended end)) result }
+    ensures named { (l : Lists) → NamesPlan script.now l result }
     ensures retains { Retains heap.old heap.new }
 {
     match value_of(end) {
@@ -343,6 +362,7 @@ pub(crate) fn for_valued<L: Ledger>(
     steps: &mut Steps<L>,
 ) -> Result<Plan, Stop>
     ensures plans { PlansAt script.now body cells.now heap.old heap.new (λ here. for_valued here node step statement (ended end)) result }
+    ensures named { (l : Lists) → NamesPlan script.now l result }
     ensures retains { Retains heap.old heap.new }
 {
     match value_of(end) {
@@ -367,6 +387,7 @@ pub(crate) fn for_stepped<L: Ledger>(
     steps: &mut Steps<L>,
 ) -> Result<Plan, Stop>
     ensures plans { PlansAt script.now body cells.now heap.old heap.new (λ here. for_stepped here node (ended end)) result }
+    ensures named { (l : Lists) → NamesPlan script.now l result }
     ensures retains { Retains heap.old heap.new }
 {
     match value_of(end) {
@@ -387,6 +408,8 @@ pub(crate) fn for_statement<L: Ledger>(
 ) -> Result<Plan, Stop>
     ensures plans { PlansIn (context script.now body cells.old) (context script.now body cells.new) heap.old heap.new (λ here. enter_scope here names (λ inner. for_first inner node first)) result }
     ensures front { OnOk result (take (length cells.old) cells.new ≡ cells.old) }
+    ensures named { (l : Lists) → NamesPlan script.now l result }
+    ensures known { (w v : World) → StandsFor heap.old w → StandsFor heap.new v → AreCells v.lists cells.old → OnOk result (AreCells v.lists cells.new) }
     ensures retains { Retains heap.old heap.new }
 {
     make_cells(heap, cells, names)?;
@@ -409,6 +432,7 @@ pub(crate) fn if_valued<L: Ledger>(
     steps: &mut Steps<L>,
 ) -> Result<Plan, Stop>
     ensures plans { PlansAt script.now body cells.now heap.old heap.new (λ here. if_valued here then otherwise (ended end)) result }
+    ensures named { (l : Lists) → NamesPlan script.now l result }
     ensures retains { Retains heap.old heap.new }
 {
     match value_of(end) {
@@ -434,6 +458,7 @@ pub(crate) fn return_valued<L: Ledger>(
     steps: &mut Steps<L>,
 ) -> Result<Plan, Stop>
     ensures plans { PlansAt script.now body cells.now heap.old heap.new (λ here. return_valued (ended end)) result }
+    ensures named { (l : Lists) → NamesPlan script.now l result }
     ensures retains { Retains heap.old heap.new }
 {
     match value_of(end) {
@@ -451,6 +476,7 @@ pub(crate) fn throw_valued<L: Ledger>(
     steps: &mut Steps<L>,
 ) -> Result<Plan, Stop>
     ensures plans { PlansAt script.now body cells.now heap.old heap.new (λ here. throw_valued (ended end)) result }
+    ensures named { (l : Lists) → NamesPlan script.now l result }
     ensures retains { Retains heap.old heap.new }
 {
     match value_of(end) {

@@ -1,6 +1,7 @@
 //! What stands in the tree: a node, a statement, an argument, by its number.
 
-ghost use Rattle.std.specs.Prelude.{◌≡◌, [], Some, None, slice_get, MatchOption};
+ghost use Rattle.std.specs.Prelude.{◌≡◌, [], Some, None, slice_get, IfSome, MatchOption};
+ghost use Rattle.es_tree.specs.Tree.{NamesKnown};
 ghost use Rattle.es_tree.specs.declared.node.Node.TheVariants as node_of;
 ghost use Rattle.evaluator.specs.Calls.{arguments_in};
 ghost use Rattle.evaluator.specs.Lists.{Finds};
@@ -14,7 +15,8 @@ use es_tree::{
 
 /// A node, if it is there.
 pub(crate) fn node_at(script: &Checked, n: NodeId) -> Option<&Node>
-    ensures { MatchOption result (slice_get script.now.nodes n.0 ≡ None) (λ node. slice_get script.now.nodes n.0 ≡ Some node.now) }
+    ensures found { MatchOption result (slice_get script.now.nodes n.0 ≡ None) (λ node. slice_get script.now.nodes n.0 ≡ Some node.now) }
+    ensures known { IfSome result (λ node. NamesKnown script.now node.now) }
 {
     if n.0 < script.nodes() {
         Some(script.node(n))

@@ -10,6 +10,12 @@ ghost use Rattle.evaluator.specs.Scopes.{enter_scope};
 ghost use Rattle.evaluator.specs.declared.items.Ending.TheVariants.{Throws};
 ghost use Rattle.evaluator.specs.Statements.{catch_in, catch_of, finally_in, finish_try, last_of, tried_ended};
 ghost use Rattle.object_heap.specs.Retains.{Retains};
+ghost use Rattle.es_model.specs.World.{Lists, World};
+ghost use Rattle.object_heap.specs.Stands.{StandsFor};
+ghost use Rattle.es_model.specs.Known.{IsKnown};
+ghost use Rattle.es_model.specs.Kept.{AreCells};
+ghost use Rattle.es_model.specs.Fits.{IsKnownCompletion};
+ghost use Rattle.evaluator.specs.Names.{NamesPlan};
 
 use crate::cells::{Cells, make_cells};
 use crate::items::{Ending, Job, Plan, StatementItem};
@@ -32,6 +38,8 @@ fn last_of<L: Ledger>(
 ) -> Result<Plan, Stop>
     ensures plans { PlansIn (context script.now body cells.old) (context script.now body cells.new) heap.old heap.new (λ here. last_of here node finally.now (ended before)) result }
     ensures front { OnOk result (take (length cells.old) cells.new ≡ cells.old) }
+    ensures named { (l : Lists) → IsKnownCompletion l (ended before) → NamesPlan script.now l result }
+    ensures known { (w v : World) → StandsFor heap.old w → StandsFor heap.new v → AreCells v.lists cells.old → OnOk result (AreCells v.lists cells.new) }
     ensures retains { Retains heap.old heap.new }
 {
     match finally {
@@ -61,6 +69,8 @@ fn finish_statement<L: Ledger>(
 ) -> Result<Plan, Stop>
     ensures plans { PlansIn (context script.now body cells.old) (context script.now body cells.new) heap.old heap.new (λ here. last_of here node (finally_in (Some (node_of.Statement statement.now))) (ended before)) result }
     ensures front { OnOk result (take (length cells.old) cells.new ≡ cells.old) }
+    ensures named { (l : Lists) → IsKnownCompletion l (ended before) → NamesPlan script.now l result }
+    ensures known { (w v : World) → StandsFor heap.old w → StandsFor heap.new v → AreCells v.lists cells.old → OnOk result (AreCells v.lists cells.new) }
     ensures retains { Retains heap.old heap.new }
 {
     match statement {
@@ -93,6 +103,8 @@ fn finish_node<L: Ledger>(
 ) -> Result<Plan, Stop>
     ensures plans { PlansIn (context script.now body cells.old) (context script.now body cells.new) heap.old heap.new (λ here. last_of here node (finally_in (Some found.now)) (ended before)) result }
     ensures front { OnOk result (take (length cells.old) cells.new ≡ cells.old) }
+    ensures named { (l : Lists) → IsKnownCompletion l (ended before) → NamesPlan script.now l result }
+    ensures known { (w v : World) → StandsFor heap.old w → StandsFor heap.new v → AreCells v.lists cells.old → OnOk result (AreCells v.lists cells.new) }
     ensures retains { Retains heap.old heap.new }
 {
     match found {
@@ -115,6 +127,8 @@ pub(crate) fn finish_try<L: Ledger>(
 ) -> Result<Plan, Stop>
     ensures plans { PlansIn (context script.now body cells.old) (context script.now body cells.new) heap.old heap.new (λ here. finish_try here node (ended before)) result }
     ensures front { OnOk result (take (length cells.old) cells.new ≡ cells.old) }
+    ensures named { (l : Lists) → IsKnownCompletion l (ended before) → NamesPlan script.now l result }
+    ensures known { (w v : World) → StandsFor heap.old w → StandsFor heap.new v → AreCells v.lists cells.old → OnOk result (AreCells v.lists cells.new) }
     ensures retains { Retains heap.old heap.new }
 {
     match node_at(script, node) {
@@ -136,6 +150,8 @@ fn enter_caught<L: Ledger>(
 ) -> Result<Plan, Stop>
     ensures plans { PlansIn (context script.now body cells.old) (context script.now body cells.new) heap.old heap.new (λ here. make_cell (Some thrown) (λ cell. enter_scope (with_cells here (here.cells ++ cell ∷ [])) names (λ inner. part (Statements inner.body inner.cells (part_of.Caught node) zero) (finish_try here node)))) result }
     ensures front { OnOk result (take (length cells.old) cells.new ≡ cells.old) }
+    ensures named { (l : Lists) → NamesPlan script.now l result }
+    ensures known { (w v : World) → StandsFor heap.old w → StandsFor heap.new v → AreCells v.lists cells.old → OnOk result (AreCells v.lists cells.new) }
     ensures retains { Retains heap.old heap.new }
 {
     let depth = cells.len();
@@ -161,6 +177,8 @@ fn caught<L: Ledger>(
 ) -> Result<Plan, Stop>
     ensures plans { PlansIn (context script.now body cells.old) (context script.now body cells.new) heap.old heap.new (λ here. catch_of here node (Some catch.now) thrown) result }
     ensures front { OnOk result (take (length cells.old) cells.new ≡ cells.old) }
+    ensures named { (l : Lists) → IsKnown l thrown → NamesPlan script.now l result }
+    ensures known { (w v : World) → StandsFor heap.old w → StandsFor heap.new v → AreCells v.lists cells.old → OnOk result (AreCells v.lists cells.new) }
     ensures retains { Retains heap.old heap.new }
 {
     match &catch.parameter {
@@ -199,6 +217,8 @@ fn catch_or_finish<L: Ledger>(
 ) -> Result<Plan, Stop>
     ensures plans { PlansIn (context script.now body cells.old) (context script.now body cells.new) heap.old heap.new (λ here. catch_of here node catch.now thrown) result }
     ensures front { OnOk result (take (length cells.old) cells.new ≡ cells.old) }
+    ensures named { (l : Lists) → IsKnown l thrown → NamesPlan script.now l result }
+    ensures known { (w v : World) → StandsFor heap.old w → StandsFor heap.new v → AreCells v.lists cells.old → OnOk result (AreCells v.lists cells.new) }
     ensures retains { Retains heap.old heap.new }
 {
     match catch {
@@ -227,6 +247,8 @@ fn catch_statement<L: Ledger>(
 ) -> Result<Plan, Stop>
     ensures plans { PlansIn (context script.now body cells.old) (context script.now body cells.new) heap.old heap.new (λ here. catch_of here node (catch_in (Some (node_of.Statement statement.now))) thrown) result }
     ensures front { OnOk result (take (length cells.old) cells.new ≡ cells.old) }
+    ensures named { (l : Lists) → IsKnown l thrown → NamesPlan script.now l result }
+    ensures known { (w v : World) → StandsFor heap.old w → StandsFor heap.new v → AreCells v.lists cells.old → OnOk result (AreCells v.lists cells.new) }
     ensures retains { Retains heap.old heap.new }
 {
     match statement {
@@ -267,6 +289,8 @@ fn catch_node<L: Ledger>(
 ) -> Result<Plan, Stop>
     ensures plans { PlansIn (context script.now body cells.old) (context script.now body cells.new) heap.old heap.new (λ here. catch_of here node (catch_in (Some found.now)) thrown) result }
     ensures front { OnOk result (take (length cells.old) cells.new ≡ cells.old) }
+    ensures named { (l : Lists) → IsKnown l thrown → NamesPlan script.now l result }
+    ensures known { (w v : World) → StandsFor heap.old w → StandsFor heap.new v → AreCells v.lists cells.old → OnOk result (AreCells v.lists cells.new) }
     ensures retains { Retains heap.old heap.new }
 {
     match found {
@@ -298,6 +322,8 @@ fn thrown_tried<L: Ledger>(
 ) -> Result<Plan, Stop>
     ensures plans { PlansIn (context script.now body cells.old) (context script.now body cells.new) heap.old heap.new (λ here. tried_ended here node (ended (Throws thrown))) result }
     ensures front { OnOk result (take (length cells.old) cells.new ≡ cells.old) }
+    ensures named { (l : Lists) → IsKnown l thrown → NamesPlan script.now l result }
+    ensures known { (w v : World) → StandsFor heap.old w → StandsFor heap.new v → AreCells v.lists cells.old → OnOk result (AreCells v.lists cells.new) }
     ensures retains { Retains heap.old heap.new }
 {
     match node_at(script, node) {
@@ -326,6 +352,8 @@ pub(crate) fn tried_ended<L: Ledger>(
 ) -> Result<Plan, Stop>
     ensures plans { PlansIn (context script.now body cells.old) (context script.now body cells.new) heap.old heap.new (λ here. tried_ended here node (ended end)) result }
     ensures front { OnOk result (take (length cells.old) cells.new ≡ cells.old) }
+    ensures named { (l : Lists) → IsKnownCompletion l (ended end) → NamesPlan script.now l result }
+    ensures known { (w v : World) → StandsFor heap.old w → StandsFor heap.new v → AreCells v.lists cells.old → OnOk result (AreCells v.lists cells.new) }
     ensures retains { Retains heap.old heap.new }
 {
     match end {

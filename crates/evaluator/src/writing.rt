@@ -1,10 +1,14 @@
 //! PutValue (ECMA-262, 6.2.5.6), and the `delete` of a reference (13.5.1.2).
 
 ghost use Rattle.es_model.specs.Program.{look};
-ghost use Rattle.es_model.specs.World.{cell as cell_of};
+ghost use Rattle.es_model.specs.World.{cell as cell_of, Lists};
 ghost use Rattle.evaluator.specs.Plans.{PlansAt};
 ghost use Rattle.evaluator.specs.References.{cell_put, delete_of, delete_reference, put_above, put_again, put_global, put_of, put_value, unless_refused};
 ghost use Rattle.object_heap.specs.Retains.{Retains};
+ghost use Rattle.es_model.specs.Known.{IsKnown};
+ghost use Rattle.es_tree.specs.Tree.{IsSite};
+ghost use Rattle.es_model.specs.Belongs.{HasNames};
+ghost use Rattle.evaluator.specs.Names.{NamesPlan, names_of_reference};
 
 use crate::cells::Cells;
 use crate::items::{Asked, Ending, FlagAsked, Plan};
@@ -27,6 +31,7 @@ pub(crate) fn unless_refused<L: Ledger>(
     steps: &mut Steps<L>,
 ) -> Result<Plan, Stop>
     ensures plans { PlansAt script.now body cells.now heap.old heap.new (λ here. unless_refused here succeeded given) result }
+    ensures named { (l : Lists) → NamesPlan script.now l result }
     ensures retains { Retains heap.old heap.new }
 {
     if succeeded || !body.strict {
@@ -51,6 +56,7 @@ fn put_above<L: Ledger>(
     steps: &mut Steps<L>,
 ) -> Result<Plan, Stop>
     ensures plans { PlansAt script.now body cells.now heap.old heap.new (λ here. put_above here class base key site value given) result }
+    ensures named { (l : Lists) → IsKnown l given → IsSite script.now site → NamesPlan script.now l result }
     ensures retains { Retains heap.old heap.new }
 {
     heap.charge(1)?;
@@ -77,6 +83,7 @@ fn put_of<L: Ledger>(
     steps: &mut Steps<L>,
 ) -> Result<Plan, Stop>
     ensures plans { PlansAt script.now body cells.now heap.old heap.new (λ here. put_of here base key site value given) result }
+    ensures named { (l : Lists) → IsKnown l given → IsSite script.now site → NamesPlan script.now l result }
     ensures retains { Retains heap.old heap.new }
 {
     match base {
@@ -166,6 +173,7 @@ fn put_cell<L: Ledger>(
     steps: &mut Steps<L>,
 ) -> Result<Plan, Stop>
     ensures plans { PlansAt script.now body cells.now heap.old heap.new (λ here. look (λ l. cell_put name cell constant value given (cell_of l cell))) result }
+    ensures named { (l : Lists) → NamesPlan script.now l result }
     ensures retains { Retains heap.old heap.new }
 {
     match heap.cell(cell) {
@@ -192,6 +200,7 @@ fn put_global<L: Ledger>(
     steps: &mut Steps<L>,
 ) -> Result<Plan, Stop>
     ensures plans { PlansAt script.now body cells.now heap.old heap.new (λ here. put_global here key value given) result }
+    ensures named { (l : Lists) → IsKnown l given → NamesPlan script.now l result }
     ensures retains { Retains heap.old heap.new }
 {
     let global = Intrinsic::Global.object();
@@ -219,6 +228,7 @@ pub(crate) fn put_again<L: Ledger>(
     steps: &mut Steps<L>,
 ) -> Result<Plan, Stop>
     ensures plans { PlansAt script.now body cells.now heap.old heap.new (λ here. put_again here name key value given present) result }
+    ensures named { (l : Lists) → IsKnown l given → NamesPlan script.now l result }
     ensures retains { Retains heap.old heap.new }
 {
     if present || !body.strict {
@@ -240,6 +250,7 @@ pub(crate) fn put_value<L: Ledger>(
     steps: &mut Steps<L>,
 ) -> Result<Plan, Stop>
     ensures plans { PlansAt script.now body cells.now heap.old heap.new (λ here. put_value here reference value given) result }
+    ensures named { (l : Lists) → HasNames script.now l (names_of_reference reference) → IsKnown l value → IsKnown l given → NamesPlan script.now l result }
     ensures retains { Retains heap.old heap.new }
 {
     match reference {
@@ -299,6 +310,7 @@ fn delete_of<L: Ledger>(
     steps: &mut Steps<L>,
 ) -> Result<Plan, Stop>
     ensures plans { PlansAt script.now body cells.now heap.old heap.new (λ here. delete_of here base key) result }
+    ensures named { (l : Lists) → NamesPlan script.now l result }
     ensures retains { Retains heap.old heap.new }
 {
     match base {
@@ -329,6 +341,7 @@ pub(crate) fn delete_reference<L: Ledger>(
     steps: &mut Steps<L>,
 ) -> Result<Plan, Stop>
     ensures plans { PlansAt script.now body cells.now heap.old heap.new (λ here. delete_reference here reference) result }
+    ensures named { (l : Lists) → NamesPlan script.now l result }
     ensures retains { Retains heap.old heap.new }
 {
     match reference {

@@ -2,6 +2,7 @@ use Rattle.std.proofs.Common.{◌≡◌, suc, ◌-◌, arith}
 use Rattle.std.proofs.lemmas.Bool.Decides.{nat_tests}
 use Rattle.object_heap.proofs.Retaining.{retains_none, retains_then}
 use Rattle.evaluator.proofs.Entering.{made_none, made_one, made_goes, made_cells, front_none, front_one}
+use Rattle.evaluator.proofs.Belonging.{scope_there}
 use Rattle.evaluator.proofs.cells.make_cells.Goals as goal
 
 pub cells-init : goal.cells-init
@@ -30,3 +31,10 @@ pub returns-clause-cells : goal.returns-clause-cells
 returns-clause-cells c = λ w h.
     let none : c.cells.left ≡ 0 = grind (arith, nat_tests, c.cells-test.false) in
     made_cells c.args.heap.now c.cells.heap w c.args.n c.cells.left c.args.cells.now c.cells.cells (c.cells.invariant.made w h) none
+
+pub returns-clause-known : goal.returns-clause-known
+returns-clause-known c = λ w v h k known.
+    let none : c.cells.left ≡ 0 = grind (arith, nat_tests, c.cells-test.false) in
+    let made = c.cells.invariant.made w h in
+    scope_there c.args.heap.now c.cells.heap w v c.args.n c.args.cells.now c.cells.cells (made_goes c.args.heap.now c.cells.heap w c.args.n c.cells.left c.args.cells.now c.cells.cells made none)
+    (made_cells c.args.heap.now c.cells.heap w c.args.n c.cells.left c.args.cells.now c.cells.cells made none) k known

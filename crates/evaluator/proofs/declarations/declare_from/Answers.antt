@@ -1,4 +1,4 @@
-use Rattle.std.proofs.Common.{◌≡◌, ◌≤◌, ◌+◌, [], drop, length, refl, arith}
+use Rattle.std.proofs.Common.{◌≤◌, ◌+◌, drop, length, refl, arith}
 use Rattle.std.proofs.lemmas.Bool.Decides.{nat_tests}
 use Rattle.std.proofs.lemmas.List.{drop_all}
 use Rattle.object_heap.proofs.Retaining.{retains_none, retains_then}

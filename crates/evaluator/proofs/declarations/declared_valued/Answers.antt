@@ -1,4 +1,4 @@
-use Rattle.std.proofs.Common.{◌≡◌, ◌≤◌, ◌+◌, length, refl, arith}
+use Rattle.std.proofs.Common.{◌≤◌, ◌+◌, length, refl, arith}
 use Rattle.std.proofs.lemmas.Bool.Decides.{nat_tests}
 use Rattle.std.proofs.lemmas.List.{drop_all}
 use Rattle.evaluator.specs.Contexts.{context}
@@ -22,12 +22,12 @@ returns-in-None-clause-plans g c = λ w h.
 pub returns-in-Err-clause-plans : goal.returns-in-Err-clause-plans
 returns-in-Err-clause-plans g c = λ w h.
     let here = context c.args.script.now c.args.body c.args.cells.now in
-    declared_ends here (declared_at here c.args.node) _ c.args.heap.now w c.args.next c.in-Some.declared.now (ended c.args.end) c.in-Err.end h c.in-Some.ensures c.in-Err.ensures
+    declared_ends here (declared_at here c.args.node) _ c.args.heap.now w c.args.next c.in-Some.declared.now (ended c.args.end) c.in-Err.end h c.in-Some.ensures c.in-Err.ensures.taken
 
 pub returns-in-Ok-clause-plans : goal.returns-in-Ok-clause-plans
 returns-in-Ok-clause-plans g c = λ w h.
     let here = context c.args.script.now c.args.body c.args.cells.now in
     let goes = c.set_cell.ensures.goes w h in
     declared_plan here _ c.args.heap.now c.set_cell.new.self c.declare_from.new.heap w c.args.next (c.args.next + 1) c.in-Some.declared.now c.args.node (ended c.args.end) c.in-Ok.value
-    c.bound_cell-cell.result _ c.in-Some.ensures refl c.in-Ok.ensures (c.bound_cell-cell.ensures c.args.script.now c.args.body) goes
+    c.bound_cell-cell.result _ c.in-Some.ensures refl c.in-Ok.ensures.taken (c.bound_cell-cell.ensures c.args.script.now c.args.body) goes
     (c.declare_from.ensures.plans (changed (SettingCell c.bound_cell-cell.result c.in-Ok.value) w) goes.stands)

@@ -10,10 +10,10 @@ pub returns-in-Err-clause-plans : goal.returns-in-Err-clause-plans
 returns-in-Err-clause-plans g c = λ w h.
     let here = context c.args.script.now c.args.body c.args.cells.now in
     subst (λ p. Plans here here c.args.heap.now c.args.heap.now w (stage_of p w) (Ok (plan.Ends c.in-Err.end))) (sym (item_on here c.args.item (ended c.args.end) c.in_default.not-Statement))
-    (valued_ends here c.args.heap.now w (item_valued here c.args.item) (ended c.args.end) c.in-Err.end c.in-Err.ensures h)
+    (valued_ends here c.args.heap.now w (item_valued here c.args.item) (ended c.args.end) c.in-Err.end c.in-Err.ensures.taken h)
 
 pub returns-in-Ok-clause-plans : goal.returns-in-Ok-clause-plans
 returns-in-Ok-clause-plans g c = λ w h.
     let here = context c.args.script.now c.args.body c.args.cells.now in
     subst (λ p. Plans here here c.args.heap.now c.item_valued.new.heap w (stage_of p w) c.item_valued.result) (sym (item_on here c.args.item (ended c.args.end) c.in_default.not-Statement))
-    (valued_goes here c.args.heap.now c.item_valued.new.heap w (item_valued here c.args.item) (ended c.args.end) c.in-Ok.value c.item_valued.result c.in-Ok.ensures (c.item_valued.ensures.plans w h))
+    (valued_goes here c.args.heap.now c.item_valued.new.heap w (item_valued here c.args.item) (ended c.args.end) c.in-Ok.value c.item_valued.result c.in-Ok.ensures.taken (c.item_valued.ensures.plans w h))

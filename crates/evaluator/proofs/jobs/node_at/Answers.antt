@@ -1,4 +1,4 @@
-use Rattle.std.proofs.Common.{◌≡◌, ◌≤◌, length, arith, sym, subst, refl, Ok}
+use Rattle.std.proofs.Common.{◌≤◌, length, arith, sym, subst, refl, Ok}
 use Rattle.std.proofs.lemmas.Bool.Decides.{nat_tests}
 use Rattle.std.proofs.lemmas.Option.{slice_get_past}
 use Rattle.property_keys.specs.declared.values.Value.TheVariants as value

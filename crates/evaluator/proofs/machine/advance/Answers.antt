@@ -6,6 +6,7 @@ use Rattle.evaluator.specs.Machine.{IsInner}
 use Rattle.evaluator.specs.Plans.{job_program}
 use Rattle.evaluator.proofs.Driven.{grown-length, job_step, job_stops}
 use Rattle.evaluator.proofs.Sounding.{job_kept, stop_sound}
+use Rattle.evaluator.proofs.Belonging.{on_ok}
 use Rattle.evaluator.proofs.machine.advance.Goals as goal
 
 pub returns-in-Err-clause-next : goal.returns-in-Err-clause-next
@@ -44,3 +45,10 @@ returns-in-Ok-clause-sound g c = λ w same h current items.
     let plans = rw c.in-Ok.is at (c.job_plan.ensures.plans w same h) in
     let scope : IsInner outer inner = record { same = refl; front = c.in-Ok.ensures.front } in
     c.follow.ensures.sound outer inner (job_program outer c.args.job) c.args.heap.now c.job_plan.new.heap w scope c.len-before.ensures c.len.ensures (job_kept outer w c.args.job same current) items plans
+
+pub returns-in-Ok-clause-named : goal.returns-in-Ok-clause-named
+returns-in-Ok-clause-named g c = λ w v same hw sound hv running items.
+    let plan = rw c.in-Ok.is at (c.job_plan.ensures.named w v same hw sound hv running) in c.follow.ensures.named c.args.script.now v.lists items plan
+
+pub returns-in-Ok-clause-known : goal.returns-in-Ok-clause-known
+returns-in-Ok-clause-known g c = λ w v hw hv cells. on_ok c.follow.result _ (c.in-Ok.ensures.known w v hw hv cells)

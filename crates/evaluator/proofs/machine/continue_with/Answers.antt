@@ -1,6 +1,8 @@
+use Rattle.std.proofs.Common.{◌∙◌}
 use Rattle.evaluator.proofs.Looped.{frame_turn, step_goes}
 use Rattle.evaluator.specs.Contexts.{context}
 use Rattle.evaluator.proofs.Sounding.{sound_asks, sound_goes}
+use Rattle.evaluator.proofs.Belonging.{asks_named, goes_named}
 use Rattle.evaluator.proofs.machine.continue_with.Goals as goal
 
 pub returns-in-GoOn-clause-turn : goal.returns-in-GoOn-clause-turn
@@ -28,3 +30,14 @@ returns-in-Asks-clause-sound g c = λ old w same h.
 
 pub returns-in-Ends-clause-sound : goal.returns-in-Ends-clause-sound
 returns-in-Ends-clause-sound g c = λ old w same h. rw c.in-Ends.is at h
+
+pub returns-in-GoOn-clause-belongs : goal.returns-in-GoOn-clause-belongs
+returns-in-GoOn-clause-belongs g c = λ old w v same h here hv.
+    let next = rw c.in-GoOn.is at h in
+    let (x, goes, later, current, items) = next in
+    c.go.ensures.belongs x v (later.script ∙ same) goes.stands current items
+    (goes_named c.args.script.now x.lists c.args.body c.args.cells c.args.pending.items c.in-GoOn.current (rw c.in-GoOn.is at (here x goes.stands))) hv
+
+pub returns-in-Asks-clause-belongs : goal.returns-in-Asks-clause-belongs
+returns-in-Asks-clause-belongs g c = λ old w v same h here hv.
+    asks_named c.args.script.now v.lists c.args.body c.args.cells c.args.pending.items c.in-Asks.request c.in-Asks.asked c.waiting.result c.waiting.ensures (rw c.in-Asks.is at (here v hv))

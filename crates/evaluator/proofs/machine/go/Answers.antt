@@ -7,6 +7,7 @@ use Rattle.evaluator.specs.Machine.{steps_for}
 use Rattle.evaluator.proofs.Bounded.{job_server, job_serves, some_left, steps_enough}
 use Rattle.evaluator.proofs.Looped.{frame_turn, stood_asks, stood_ends, stood_first, stood_on, stood_stops}
 use Rattle.evaluator.proofs.Sounding.{sound_asks, sound_first, sound_on, sound_stops}
+use Rattle.evaluator.proofs.Belonging.{asks_named, goes_named, here_later, step_named}
 use Rattle.evaluator.proofs.machine.go.Goals as goal
 
 pub steps-init : goal.steps-init
@@ -22,6 +23,7 @@ steps-init g c = record {
       let some = subst (λ x. most + length c.args.pending.items ≤ x) (sym all) (steps_enough script w.turns (length c.args.pending.items)) in
       stood_first c.new-left.result most script c.args.body S n c.args.heap.now w c.args.cells c.args.pending.items c.args.current some h;
   sound = λ w same h current items. sound_first (context c.args.script.now c.args.body c.args.cells) c.args.heap.now w c.args.pending.items c.args.current h current items;
+  named = λ w x hw hx same current items here. here_later c.args.script.now c.args.heap.now c.args.heap.now w x c.args.body c.args.cells c.args.pending.items (retains_none c.args.heap.now) hw hx here;
   retains = retains_none c.args.heap.now;
 }
 
@@ -51,6 +53,11 @@ steps-preserved g c = record {
   sound = λ w same h current items.
       sound_on c.args.script.now c.args.body c.args.heap.now c.steps.heap c.step.new.heap w c.steps.cells c.step.new.cells c.steps.pending.items c.step.new.pending.items c.steps.current c.step.result _ same (c.steps.invariant.sound w same h current items)
       (c.in-Ok-GoOn.is ∙ ap (λ x. Ok x) c.in-Ok-GoOn.field-0-is) (λ v sv hv now ps. c.step.ensures.sound v sv hv now ps);
+  named = λ w u hw hu same current items here.
+      goes_named c.args.script.now u.lists c.args.body c.step.new.cells c.step.new.pending.items c.in-Ok-GoOn.next
+      (step_named c.args.script.now c.args.body c.args.heap.now c.steps.heap c.step.new.heap w u c.steps.cells c.step.new.cells c.steps.pending.items c.step.new.pending.items c.steps.current c.step.result _ same
+      (c.steps.invariant.sound w same hw current items) (λ x hx. c.steps.invariant.named w x hw hx same current items here) c.step.ensures.retains hu (c.in-Ok-GoOn.is ∙ ap (λ x. Ok x) c.in-Ok-GoOn.field-0-is)
+      (λ x y sx hx sound hy running now ps. c.step.ensures.named x y sx hx sound hy running now ps) (λ x y hx hy cells. c.step.ensures.known x y hx hy cells));
   retains = retains_then _ _ _ c.steps.invariant.retains c.step.ensures.retains;
 }
 
@@ -84,3 +91,10 @@ pub returns-in-Err-clause-sound : goal.returns-in-Err-clause-sound
 returns-in-Err-clause-sound g c = λ w same h current items.
     sound_stops c.args.script.now (context c.args.script.now c.args.body c.step.new.cells) c.args.heap.now c.step.new.heap w c.step.new.pending.items c.in-Err.stop
     (sound_on c.args.script.now c.args.body c.args.heap.now c.steps.heap c.step.new.heap w c.steps.cells c.step.new.cells c.steps.pending.items c.step.new.pending.items c.steps.current c.step.result _ same (c.steps.invariant.sound w same h current items) c.in-Err.is (λ v sv hv now ps. c.step.ensures.sound v sv hv now ps))
+
+pub returns-in-Ok-Asks-clause-belongs : goal.returns-in-Ok-Asks-clause-belongs
+returns-in-Ok-Asks-clause-belongs g c = λ w v same hw current items here hv.
+    asks_named c.args.script.now v.lists c.args.body c.step.new.cells c.step.new.pending.items c.in-Ok-Asks.request c.in-Ok-Asks.asked c.waiting.result c.waiting.ensures
+    (step_named c.args.script.now c.args.body c.args.heap.now c.steps.heap c.step.new.heap w v c.steps.cells c.step.new.cells c.steps.pending.items c.step.new.pending.items c.steps.current c.step.result _ same
+    (c.steps.invariant.sound w same hw current items) (λ x hx. c.steps.invariant.named w x hw hx same current items here) c.step.ensures.retains hv (c.in-Ok-Asks.is ∙ ap (λ x. Ok x) c.in-Ok-Asks.field-0-is)
+    (λ x y sx hx sound hy running now ps. c.step.ensures.named x y sx hx sound hy running now ps) (λ x y hx hy cells. c.step.ensures.known x y hx hy cells))

@@ -8,6 +8,7 @@ use Rattle.evaluator.specs.declared.frames.Next.TheVariants.{GoOn}
 use Rattle.evaluator.specs.Contexts.{context}
 use Rattle.evaluator.specs.Frames.{IsStacked}
 use Rattle.evaluator.specs.Machine.{IsServer}
+use Rattle.evaluator.specs.Names.{IsHereNamed}
 use Rattle.evaluator.specs.Soundness.{KeepsCurrent, KeepsItems, StaysSoundNext}
 use Rattle.evaluator.proofs.Looped.{Stood}
 use Rattle.evaluator.proofs.machine.go.Given as goal
@@ -19,6 +20,8 @@ invariant-steps g l = record {
       Stood (l.left + 3) (2 * (renewed l.script + (2 * renewed l.script) * w.turns + renewed l.script * length l.fn.pending.items) + 3) l.script l.body S n l.fn.heap l.heap w l.fn.cells l.fn.pending.items l.fn.current l.cells l.pending.items l.current;
   sound : (w : World) → w.script ≡ l.script → StandsFor l.fn.heap w → KeepsCurrent (context l.script l.body l.fn.cells) w l.fn.current → KeepsItems (context l.script l.body l.fn.cells) w l.fn.pending.items →
       StaysSoundNext (context l.script l.body l.cells) l.fn.heap l.heap w l.pending.items (Ok (GoOn l.current));
+  named : (w x : World) → StandsFor l.fn.heap w → StandsFor l.heap x → w.script ≡ l.script → KeepsCurrent (context l.script l.body l.fn.cells) w l.fn.current → KeepsItems (context l.script l.body l.fn.cells) w l.fn.pending.items →
+      IsHereNamed l.script w.lists l.body l.fn.cells l.fn.pending.items → IsHereNamed l.script x.lists l.body l.cells l.pending.items;
   retains : Retains l.fn.heap l.heap;
 }
 

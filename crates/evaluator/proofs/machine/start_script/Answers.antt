@@ -2,7 +2,8 @@ use Rattle.std.proofs.Common.{◌∙◌, ap, Ok}
 use Rattle.es_tree.specs.Tree.{top_names}
 use Rattle.evaluator.specs.Scopes.{world_with}
 use Rattle.evaluator.proofs.Started.{script_begins, script_ends, script_stops, top_of}
-use Rattle.evaluator.proofs.Sounding.{script_begins_sound, script_ends_sound, script_stops_sound}
+use Rattle.evaluator.proofs.Sounding.{script_begins_sound, script_ends_sound, script_ready, script_stops_sound}
+use Rattle.evaluator.proofs.Belonging.{turn_named}
 use Rattle.evaluator.proofs.machine.start_script.Goals as goal
 
 pub returns-in-Err-clause-turn : goal.returns-in-Err-clause-turn
@@ -42,3 +43,10 @@ returns-clause-sound g c = λ w same h sound.
     let declares = rw (c.in-Ok-None.is ∙ ap (λ x. Ok x) c.in-Ok-None.field-0-is) at (c.declare_functions.ensures.declares (top_of c.args.script.now w) (world_with (top_names c.args.script.now) w) goes.stands) in
     script_begins_sound c.args.script.now c.args.heap.now c.make_cells.new.heap c.declare_functions.new.heap c.run_statements.new.heap w c.run_statements.result same sound goes declares
     (λ v sv hv sound. c.run_statements.ensures.sound v sv hv sound)
+
+pub returns-clause-belongs : goal.returns-clause-belongs
+returns-clause-belongs g c = λ w v same h sound hv last.
+    let goes = rw c.top_names.ensures at (c.in_ok-make_cells.ensures.goes w h) in
+    let declares = rw (c.in-Ok-None.is ∙ ap (λ x. Ok x) c.in-Ok-None.field-0-is) at (c.declare_functions.ensures.declares (top_of c.args.script.now w) (world_with (top_names c.args.script.now) w) goes.stands) in
+    let ready = script_ready c.args.script.now c.make_cells.new.heap c.declare_functions.new.heap w same sound declares in
+    turn_named c.args.script.now v c.run_statements.result last (c.run_statements.ensures.belongs (world_with (top_names c.args.script.now) w) v ready.1 (declares.0).stands ready.0 hv)

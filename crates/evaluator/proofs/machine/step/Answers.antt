@@ -3,6 +3,7 @@ use Rattle.std.proofs.lemmas.List.{append-nil}
 use Rattle.evaluator.specs.Contexts.{context}
 use Rattle.evaluator.proofs.Driven.{end_step, pop_step, popped_stack, stacked_none}
 use Rattle.evaluator.proofs.Sounding.{body_sound, items_popped}
+use Rattle.evaluator.proofs.Belonging.{items_apart}
 use Rattle.evaluator.proofs.machine.step.Goals as goal
 
 pub returns-in-At-clause-next : goal.returns-in-At-clause-next
@@ -45,3 +46,12 @@ returns-in-Some-clause-sound g c = λ w same h current items.
     let here = context c.args.script.now c.args.body c.args.cells.now in
     let end = rw c.in-EndedBy.is at current in
     let popped = items_popped here w c.args.pending.now.items c.pop.new.self.items c.in-Some.entry c.in-Some.ensures.items items in c.wake.ensures.sound w h end popped.1 popped.0
+
+pub returns-in-At-clause-named : goal.returns-in-At-clause-named
+returns-in-At-clause-named g c = λ w v same hw sound hv running current items. c.advance.ensures.named w v same hw sound hv running items
+
+pub returns-in-Some-clause-named : goal.returns-in-Some-clause-named
+returns-in-Some-clause-named g c = λ w v same hw sound hv running current items.
+    let end = rw c.in-EndedBy.is at current in
+    let popped = items_apart c.args.script.now v.lists c.args.pending.now.items c.pop.new.self.items c.in-Some.entry c.in-Some.ensures.items items in
+    c.wake.ensures.named w v hw sound hv popped.1 end popped.0

@@ -8,6 +8,7 @@ use Rattle.evaluator.specs.Machine.{IsInner}
 use Rattle.evaluator.specs.Plans.{asked_program}
 use Rattle.evaluator.proofs.Looped.{asked_step, asked_stops, err_turn}
 use Rattle.evaluator.proofs.Sounding.{sound_stops, stop_sound}
+use Rattle.evaluator.proofs.Belonging.{answer_later, asked_later, here_later}
 use Rattle.evaluator.proofs.machine.take_answer.Goals as goal
 
 pub returns-in-Err-clause-turn : goal.returns-in-Err-clause-turn
@@ -71,3 +72,22 @@ returns-in-Ok-follow-clause-sound g c = λ w same h kept items.
     let scope : IsInner here here = record { same = refl; front = take-length c.args.cells } in
     let step = c.follow.ensures.sound here here p c.args.heap.now c.asked_plan.new.heap w scope c.len-depth.ensures c.len-depth.ensures kept items plans in
     let goes = rw c.in-Ok-follow.is at step in c.continue_with.ensures.sound c.args.heap.now w same goes
+
+pub returns-in-Ok-follow-clause-belongs : goal.returns-in-Ok-follow-clause-belongs
+returns-in-Ok-follow-clause-belongs g c = λ w v same h sound kept items here asks known hv.
+    let script = c.args.script.now in
+    let now = context script c.args.body c.args.cells in
+    let plans = rw c.in-Ok.is at (c.asked_plan.ensures.plans w h) in
+    let p = asked_program now c.args.asked (answered c.args.answer) in
+    let scope : IsInner now now = record { same = refl; front = take-length c.args.cells } in
+    let step = c.follow.ensures.sound now now p c.args.heap.now c.asked_plan.new.heap w scope c.len-depth.ensures c.len-depth.ensures kept items plans in
+    let goes = rw c.in-Ok-follow.is at step in
+    c.continue_with.ensures.belongs c.args.heap.now w v same goes
+    (λ x hx.
+    let a = c.args.heap.now in
+    let b = c.asked_plan.new.heap in
+    let r = c.asked_plan.ensures.retains in
+    let later = here_later script a b w x c.args.body c.args.cells c.args.pending.items r h hx here in
+    let plan = rw c.in-Ok.is at (c.asked_plan.ensures.named w x h sound hx (asked_later script a b w x c.args.asked r h hx asks) (answer_later script a b w x (answered c.args.answer) r h hx known)) in
+    let next = rw c.in-Ok-follow.is at (c.follow.ensures.named script x.lists later.items plan) in (later.running, later.there, next))
+    hv

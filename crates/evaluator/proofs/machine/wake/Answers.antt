@@ -6,6 +6,7 @@ use Rattle.evaluator.specs.Machine.{IsInner, within}
 use Rattle.evaluator.specs.Plans.{Plans, ended, item_program}
 use Rattle.evaluator.proofs.Driven.{grown-length, item_step, item_stops}
 use Rattle.evaluator.proofs.Sounding.{item_kept, items_cut, stop_sound}
+use Rattle.evaluator.proofs.Belonging.{cut_there, on_ok}
 use Rattle.evaluator.proofs.machine.wake.Goals as goal
 
 pub returns-in-Err-clause-next : goal.returns-in-Err-clause-next
@@ -56,3 +57,11 @@ returns-in-Ok-clause-sound g c = λ w h current keeps items.
     let scope : IsInner cut inner = record { same = refl; front = front } in
     c.follow.ensures.sound cut inner (item_program cut c.args.entry.item (ended c.args.end)) c.args.heap.now c.item_plan.new.heap w scope (sym (length-take-le c.args.entry.depth c.args.cells.now c.requires.high)) c.len.ensures kept
     (items_cut here c.args.entry.depth w c.args.pending.now.items c.requires.high c.requires.stacked items) plans
+
+pub returns-in-Ok-clause-named : goal.returns-in-Ok-clause-named
+returns-in-Ok-clause-named g c = λ w v hw sound hv names end items.
+    let plan = rw c.in-Ok.is at (c.item_plan.ensures.named w v hw sound hv names end) in c.follow.ensures.named c.args.script.now v.lists items plan
+
+pub returns-in-Ok-clause-known : goal.returns-in-Ok-clause-known
+returns-in-Ok-clause-known g c = λ w v hw hv cells.
+    on_ok c.follow.result _ (c.in-Ok.ensures.known w v hw hv (cut_there v.lists c.args.cells.now c.truncate.new.self c.args.entry.depth c.truncate.ensures cells))

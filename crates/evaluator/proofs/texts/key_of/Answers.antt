@@ -1,4 +1,4 @@
-use Rattle.std.proofs.Common.{◌≡◌, ◌≤◌, ◌∙◌, [], length, arith, sym, subst}
+use Rattle.std.proofs.Common.{◌≡◌, ◌≤◌, [], length, arith, sym, subst}
 use Rattle.std.proofs.lemmas.Bool.Decides.{nat_tests}
 use Rattle.std.proofs.lemmas.List.{get_or_past}
 use Rattle.property_keys.specs.declared.keys.PropKey.TheVariants.{Name}

@@ -16,6 +16,7 @@ use Rattle.evaluator.specs.Scopes.{fresh_cells, make_cells, world_with}
 use Rattle.evaluator.specs.Statements.{finish_try}
 use Rattle.evaluator.proofs.Entering.{front_more}
 use Rattle.evaluator.proofs.Planned.{cells_plan, plans_then}
+use Rattle.evaluator.proofs.Belonging.{new_cell_there, pushed_there}
 use Rattle.evaluator.proofs.trying.enter_caught.Goals as goal
 
 pub returns-clause-front : goal.returns-clause-front
@@ -36,3 +37,10 @@ returns-clause-plans g c = λ w h.
     plans_then outer inner c.args.heap.now c.new_cell.new.self c.make_cells.new.heap w u (stage_of (make_cells c.args.names pushed next) u) entered one
     (cells_plan outer inner c.new_cell.new.self c.make_cells.new.heap u c.args.names pushed c.make_cells.new.cells next entered
     goes made (refl, refl, c.len-depth.ensures, goes_none c.make_cells.new.heap (world_with c.args.names u) goes.stands))
+
+pub returns-clause-known : goal.returns-clause-known
+returns-clause-known g c = λ w v h k known.
+    let u : World = changed (MakingCell (Some c.args.thrown)) w in
+    let one = c.in_ok-cell.ensures.ok w h in
+    let there = new_cell_there c.new_cell.new.self c.make_cells.new.heap w v (Some c.args.thrown) c.in_ok-cell.cell (c.in_ok-cell.ensures.cell w h) one.stands c.make_cells.ensures.retains k in
+    c.in_ok-make_cells.ensures.known u v one.stands k (pushed_there v.lists c.args.cells.now c.push.new.self c.in_ok-cell.cell c.in_ok-push.ensures.ok there known)
