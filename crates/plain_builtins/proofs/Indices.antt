@@ -1,5 +1,5 @@
 -- The array index that a number is.
-use Rattle.std.proofs.Common.{◌≡◌, ℕ, None, refl, arith}
+use Rattle.std.proofs.Common.{◌≡◌, None, refl, arith}
 use Rattle.std.proofs.lemmas.Int.{ints}
 use Rattle.std.specs.Prelude.{ℤ, pos, negsuc, nat_abs, ◌<ℤ◌, ◌≤ℤ◌}
 use Rattle.plain_builtins.specs.Conversions.{index_of}

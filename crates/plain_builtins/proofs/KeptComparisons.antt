@@ -1,5 +1,5 @@
 -- IsLooselyEqual and IsLessThan keep worlds sound.
-use Rattle.std.proofs.Common.{◌≡◌, ℕ, ℤ, Bool, true, false, Option, Some, None, Result, Ok, Err, List, [], ◌∷◌, refl}
+use Rattle.std.proofs.Common.{Bool, true, false, Option, Some, None, Result, Ok, Err, List, [], refl}
 use Rattle.std.specs.Prelude.{int_lt}
 use Rattle.property_keys.specs.declared.identifiers.ObjectId.{ObjectId}
 use Rattle.property_keys.specs.declared.identifiers.TextId.{TextId}
@@ -9,21 +9,20 @@ use Rattle.es_model.specs.declared.answers.Reply.TheVariants as reply
 use Rattle.es_model.specs.declared.requests.Operation.TheVariants as operation
 use Rattle.es_model.specs.declared.requests.Request.TheVariants.{Work}
 use Rattle.es_model.specs.Completions.{Completion, Normal}
-use Rattle.es_model.specs.World.{Lists, World, units_of}
-use Rattle.es_model.specs.Changes.{charged}
+use Rattle.es_model.specs.World.{World}
 use Rattle.es_model.specs.Program.{Task, Of}
-use Rattle.es_model.specs.Known.{IsObject, IsKnown}
+use Rattle.es_model.specs.Known.{IsKnown}
 use Rattle.es_model.specs.Fits.{Fits}
 use Rattle.es_model.specs.Sound.{IsSound}
 use Rattle.es_model.specs.Kept.{FitsTask, IsKept, IsLater}
 use Rattle.es_model.specs.programs.Testing.{as_object}
-use Rattle.es_model.proofs.Keeping.{later_none, later_then}
+use Rattle.es_model.proofs.Keeping.{later_none}
 use Rattle.es_model.proofs.KnownLater.{known-later}
 use Rattle.es_model.proofs.SharedKept.{value-kept}
 use Rattle.es_model.proofs.SoundErrors.{kept-if}
 use Rattle.es_model.proofs.SoundReads.{sound-charged}
 use Rattle.es_model.specs.Program.{Program}
-use Rattle.plain_builtins.specs.Comparisons.{says, equal_in, says_equal, numbered, primitives_equal, left_converted, right_converted, is_nullish, loosely_equal_by, texts_less, numbers_less, as_text, less_by, primitives_less, converted_by, converted, right_after, left_first, left_after, right_first, less_than}
+use Rattle.plain_builtins.specs.Comparisons.{says, equal_in, says_equal, numbered, primitives_equal, is_nullish, loosely_equal_by, texts_less, numbers_less, as_text, less_by, primitives_less, converted, right_after, left_first, left_after, right_first, less_than}
 use Rattle.plain_builtins.specs.Conversions.{number_in, with_number}
 use Rattle.plain_builtins.specs.declared.words.NoNumber.{NoNumber}
 use Rattle.plain_builtins.proofs.KeptConversions.{no_number-kept, with_number-kept, number-whole}

@@ -1,5 +1,5 @@
 -- ToPrimitive, ToString, ToNumber and ToPropertyKey keep worlds sound.
-use Rattle.std.proofs.Common.{◌≡◌, ◌≤◌, ℕ, suc, ℤ, pos, negsuc, Bool, true, false, cond, Option, Some, None, Result, Ok, Err, List, [], ◌∷◌, refl, arith, ap, sym, subst, ◌∙◌}
+use Rattle.std.proofs.Common.{◌≡◌, ◌≤◌, ℕ, suc, ℤ, pos, negsuc, Bool, true, false, cond, Option, Some, None, Result, Ok, Err, List, [], refl, arith, sym, subst}
 use Rattle.std.proofs.lemmas.Bool.{leb-true}
 use Rattle.std.proofs.lemmas.Int.{ints}
 use Rattle.std.proofs.lemmas.Fmt.{length_signed_le}
@@ -19,7 +19,6 @@ use Rattle.property_keys.proofs.KeyLaws.{IsGoodKey-key_of}
 use Rattle.property_keys.proofs.Numerals.{IsWhole-number_of}
 use Rattle.es_model.specs.declared.answers.Reply.TheVariants as reply
 use Rattle.es_model.specs.declared.kinds.ErrorKind.TheVariants as error
-use Rattle.es_model.specs.declared.requests.Operation.{Operation}
 use Rattle.es_model.specs.declared.requests.Operation.TheVariants as operation
 use Rattle.es_model.specs.declared.requests.Request.{Request}
 use Rattle.es_model.specs.declared.requests.Request.TheVariants.{Call, Read, Work}
@@ -29,20 +28,19 @@ use Rattle.es_model.specs.StartTexts.{symbol_of}
 use Rattle.es_model.specs.World.{Lists, World, kind, units_of}
 use Rattle.es_model.specs.World as world
 use Rattle.es_model.specs.Changes.{Interning, changed, charged}
-use Rattle.es_model.specs.Program.{Program, Task, Of, look, intern}
+use Rattle.es_model.specs.Program.{Program, Task, Of}
 use Rattle.es_model.specs.Known.{IsObject, IsText, IfThere, IsKnown, IsKnownKey, IsSymbolKey}
-use Rattle.es_model.specs.Fits.{Fits, FitsWork, IsPrimitive}
+use Rattle.es_model.specs.Fits.{Fits, IsPrimitive}
 use Rattle.es_model.specs.Sound.{IsShort, IsSound}
-use Rattle.es_model.specs.Kept.{FitsTask, IsKept, IsLater}
+use Rattle.es_model.specs.Kept.{FitsTask, IsKept}
 use Rattle.es_model.specs.programs.Testing.{as_object, is_callable}
 use Rattle.es_model.proofs.Growing.{grows-changed}
-use Rattle.es_model.proofs.Keeping.{later_then}
-use Rattle.es_model.proofs.KnownLater.{object-later, known-later}
-use Rattle.es_model.proofs.SharedKept.{get_named-kept, later-changed, then_method-kept, value-kept}
+use Rattle.es_model.proofs.KnownLater.{object-later}
+use Rattle.es_model.proofs.SharedKept.{get_named-kept, then_method-kept, value-kept}
 use Rattle.es_model.proofs.SoundChanges.{sound-interning}
 use Rattle.es_model.proofs.SoundErrors.{error-kept, interned-known, kept-if}
 use Rattle.es_model.proofs.SoundReads.{sound-charged}
-use Rattle.plain_builtins.specs.Conversions.{gives, cannot_convert, hint_text, first_name, second_name, tried, primitive_or, last_called, second_found, second_given, second_tried, first_called, first_found, first_given, ordinary_to_primitive, exotic_found, exotic_given, to_primitive_by, gives_text, truth_text, text_of, text_given, to_text_by, or_outside, truth_number, number_in, no_number, with_number, gives_number, whole_of, whole_given, to_whole_by, key_of_text, key_of_units, index_of, key_of_number, key_in, key_given, to_key_by}
+use Rattle.plain_builtins.specs.Conversions.{cannot_convert, hint_text, first_name, second_name, tried, primitive_or, last_called, second_found, second_given, second_tried, first_called, first_found, first_given, ordinary_to_primitive, exotic_found, to_primitive_by, gives_text, truth_text, text_of, to_text_by, or_outside, truth_number, number_in, no_number, with_number, gives_number, whole_of, to_whole_by, key_of_text, key_of_units, index_of, key_of_number, key_in, to_key_by}
 use Rattle.plain_builtins.specs.declared.words.Hint.{Hint}
 use Rattle.plain_builtins.specs.declared.words.Hint.TheVariants as hint
 use Rattle.plain_builtins.specs.declared.words.NoNumber.{NoNumber}

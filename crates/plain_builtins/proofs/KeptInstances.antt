@@ -1,5 +1,5 @@
 -- InstanceofOperator and OrdinaryHasInstance keep worlds sound.
-use Rattle.std.proofs.Common.{◌≡◌, ℕ, zero, suc, Bool, true, false, Option, Some, None, List, [], ◌∷◌, refl, arith}
+use Rattle.std.proofs.Common.{ℕ, zero, suc, true, Option, Some, None, List, [], ◌∷◌, refl, arith}
 use Rattle.std.specs.Prelude.{codes}
 use Rattle.property_keys.specs.declared.identifiers.ObjectId.{ObjectId}
 use Rattle.property_keys.specs.declared.keys.PropKey.TheVariants.{Name, Sym}
@@ -24,7 +24,7 @@ use Rattle.es_model.proofs.SharedKept.{get_named-kept, not_function-kept, not_ob
 use Rattle.es_model.proofs.SoundErrors.{kept-if}
 use Rattle.es_model.proofs.SoundReads.{sound-charged}
 use Rattle.plain_builtins.specs.Comparisons.{says}
-use Rattle.plain_builtins.specs.Instances.{most_rounds, same_object, parent_found, parent_given, instance_round, prototype_by, prototype_given, has_instance, handler_called, handler_found, handler_given, instance_of_by}
+use Rattle.plain_builtins.specs.Instances.{most_rounds, same_object, parent_found, instance_round, prototype_by, prototype_given, has_instance, handler_found, instance_of_by}
 
 abbrev InstanceTask : List Value → Task
 InstanceTask operands = Of (Work operation.InstanceOf operands)

@@ -1,5 +1,5 @@
 -- CreateListFromArrayLike and the function that prints a line keep worlds sound.
-use Rattle.std.proofs.Common.{◌≡◌, ◌≤◌, ◌<◌, ℕ, zero, suc, ◌-◌, Bool, true, false, cond, Option, Some, None, List, [], ◌∷◌, ◌++◌, refl, ap, subst, ◌∙◌, arith}
+use Rattle.std.proofs.Common.{◌≡◌, ◌<◌, ℕ, zero, suc, ◌-◌, Bool, true, false, cond, Option, Some, None, List, [], ◌∷◌, ◌++◌, refl, ap, subst, ◌∙◌, arith}
 use Rattle.std.specs.Prelude.{codes, min, nat_le, pos}
 use Rattle.std.specs.List.{AllByRecursion}
 use Rattle.std.proofs.lemmas.Bool.{leb-true, leb-false}
@@ -22,7 +22,6 @@ use Rattle.es_model.specs.declared.requests.Request.TheVariants.{Call, Print, Re
 use Rattle.es_model.specs.Completions.{Completion, Normal}
 use Rattle.es_model.specs.World.{Lists, World, units_of, number_of}
 use Rattle.es_model.specs.Changes.{Interning, changed, charged}
-use Rattle.es_model.specs.Grows.{Grows}
 use Rattle.es_model.specs.Program.{Program, Task, Of, done, intern}
 use Rattle.es_model.specs.programs.Errors.{undefined}
 use Rattle.es_model.specs.Known.{IsObject, IfThere, IsKnown, IsKnownKey, AreKnown}
@@ -44,7 +43,7 @@ use Rattle.es_model.proofs.SoundErrors.{error-kept, interned-known, interned-nam
 use Rattle.es_model.proofs.SoundReads.{sound-charged}
 use Rattle.plain_builtins.specs.ArrayLikes.{wrong_value, gives_all, key_put, element_put, element_given, get_element, elements_left, elements_of, list_by}
 use Rattle.plain_builtins.specs.Names.{collected_reply}
-use Rattle.plain_builtins.specs.Printing.{line_printed, argument_given, print_left}
+use Rattle.plain_builtins.specs.Printing.{print_left}
 use Rattle.plain_builtins.specs.declared.words.Collected.{Collected}
 use Rattle.plain_builtins.specs.declared.words.Collected.TheVariants as collected
 use Rattle.plain_builtins.proofs.KeptConversions.{text-key, whole-short}

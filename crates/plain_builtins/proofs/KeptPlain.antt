@@ -1,5 +1,5 @@
 -- The program of every request that comes here keeps worlds sound.
-use Rattle.std.proofs.Common.{◌≡◌, ℕ, Bool, true, false, Option, Some, None, List, [], ◌∷◌, length, arith}
+use Rattle.std.proofs.Common.{ℕ, List, [], ◌∷◌, arith}
 use Rattle.std.specs.Prelude.{codes, nat_eq}
 use Rattle.property_keys.specs.declared.identifiers.ObjectId.{ObjectId}
 use Rattle.property_keys.specs.declared.values.Value.{Value}
@@ -12,7 +12,7 @@ use Rattle.es_model.specs.declared.requests.Request.TheVariants.{GetOwn, Define,
 use Rattle.es_model.specs.World.{World, kind}
 use Rattle.es_model.specs.Program.{Of, Task}
 use Rattle.es_model.specs.Known.{IsKnown, AreKnown}
-use Rattle.es_model.specs.Fits.{HasOperands, IsKnownRequest}
+use Rattle.es_model.specs.Fits.{IsKnownRequest}
 use Rattle.es_model.specs.Sound.{IsSound}
 use Rattle.es_model.specs.Kept.{FitsTask, IsKept}
 use Rattle.es_model.specs.programs.Errors.{not_a_constructor, unfit, unwritten}
@@ -20,7 +20,7 @@ use Rattle.es_model.specs.programs.Testing.{is_constructor_kind}
 use Rattle.es_model.proofs.SharedKept.{not_function-kept}
 use Rattle.es_model.proofs.SoundErrors.{error-kept, kept-if, throw-fits}
 use Rattle.object_heap.specs.Turns.{KeepsFor}
-use Rattle.plain_builtins.specs.Plain.{one_operand, two_operands, three_operands, less_than_by, work_program, print_row, row_program, callee_in, call_by, call_program, construct_program, plain_program}
+use Rattle.plain_builtins.specs.Plain.{one_operand, two_operands, three_operands, less_than_by, work_program, print_row, row_program, callee_in, call_by, construct_program, plain_program}
 use Rattle.plain_builtins.specs.Printing.{print}
 use Rattle.plain_builtins.specs.declared.words.Callee.{Callee}
 use Rattle.plain_builtins.specs.declared.words.Callee.TheVariants.{Row, Elsewhere, NoFunction}

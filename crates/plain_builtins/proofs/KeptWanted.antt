@@ -1,6 +1,6 @@
 -- ToPropertyDescriptor keeps worlds sound.
-use Rattle.std.proofs.Common.{◌≡◌, ℕ, Bool, true, false, cond, Option, Some, None, List, [], ◌∷◌, refl, sym, arith, ap, ◌∙◌, true≢false, ◌&&◌}
-use Rattle.std.specs.Prelude.{codes, not, IsTrue}
+use Rattle.std.proofs.Common.{◌≡◌, Bool, true, false, cond, Option, Some, None, List, [], ◌∷◌, refl, sym, arith, ap, ◌∙◌, true≢false, ◌&&◌}
+use Rattle.std.specs.Prelude.{codes, not}
 use Rattle.property_keys.specs.declared.identifiers.ObjectId.{ObjectId}
 use Rattle.property_keys.specs.declared.values.Value.{Value}
 use Rattle.property_keys.specs.declared.values.Value.TheVariants as value
@@ -10,20 +10,17 @@ use Rattle.descriptors.specs.Kinds.{has_functions, is_function_field, is_of_both
 use Rattle.es_model.specs.declared.answers.Reply.TheVariants as reply
 use Rattle.es_model.specs.declared.kinds.ErrorKind.TheVariants as error
 use Rattle.es_model.specs.declared.requests.Operation.TheVariants as operation
-use Rattle.es_model.specs.declared.requests.Request.{Request}
 use Rattle.es_model.specs.declared.requests.Request.TheVariants.{Has, Read, Work}
 use Rattle.property_keys.specs.declared.keys.PropKey.TheVariants.{Name}
-use Rattle.es_model.specs.Completions.{Completion, Normal}
+use Rattle.es_model.specs.Completions.{Normal}
 use Rattle.es_model.specs.World.{Lists, World, number_of}
 use Rattle.es_model.specs.Grows.{Grows}
 use Rattle.es_model.specs.Program.{Program, Task, Of, done}
-use Rattle.es_model.specs.Known.{IsObject, IfThere, IsKnown, IsKnownDescriptor}
-use Rattle.es_model.specs.Fits.{Fits}
+use Rattle.es_model.specs.Known.{IsObject, IfThere, IsKnown}
 use Rattle.es_model.specs.Sound.{IsShort, IsSound}
 use Rattle.es_model.specs.Kept.{FitsTask, IsKept}
 use Rattle.es_model.specs.programs.Errors.{throw_error, not_a_function}
-use Rattle.es_model.specs.programs.Methods.{get_named}
-use Rattle.es_model.specs.programs.Testing.{as_object, is_callable, is_truth}
+use Rattle.es_model.specs.programs.Testing.{as_object, is_truth}
 use Rattle.es_model.proofs.KnownLater.{object-later, known-later, there-map}
 use Rattle.es_model.proofs.SharedKept.{flag-kept, get_named-kept, has_named-kept, not_function-kept, not_object-kept, value-kept}
 use Rattle.es_model.proofs.SoundErrors.{error-kept}

@@ -5,7 +5,6 @@ pub mod KeptInstances
 pub mod KeptLists
 pub mod KeptPlain
 pub mod KeptWanted
-pub mod OperandCounts
 pub mod Orders
 pub mod PlainWithin
 pub mod Rounds

@@ -1,5 +1,5 @@
 -- Two texts that are the same up to a place.
-use Rattle.std.proofs.Common.{◌≡◌, ◌≢◌, ◌<◌, ◌≤◌, ◌+◌, ℕ, zero, suc, Bool, true, false, cond, Some, None, List, [], ◌∷◌, length, drop, slice_get, inl, inr, length-drop, ◌-◌, refl, sym, ap, subst, ◌∙◌, arith}
+use Rattle.std.proofs.Common.{◌≡◌, ◌≢◌, ◌≤◌, ◌+◌, ℕ, zero, suc, true, false, cond, Some, List, [], ◌∷◌, length, drop, slice_get, inl, inr, length-drop, ◌-◌, refl, sym, ap, subst, ◌∙◌, arith}
 use Rattle.std.specs.Prelude.{nat_lt, ◌==◌}
 use Rattle.std.proofs.lemmas.Bool.{cases_lt, le-ltb, lt-ltb}
 use Rattle.std.proofs.lemmas.Bool.Decides.{eqb_tells}
@@ -16,9 +16,6 @@ other-eqb a b n = elim (eqb_tells a b) [ inl p ↦ absurd (n p.1) | inr q ↦ q.
 pub record IsSame (us vs : List ℕ) (i : ℕ) : Type 0 where
   pub looked : units_looked us vs ≡ i + units_looked (drop i us) (drop i vs)
   pub less : units_less us vs ≡ units_less (drop i us) (drop i vs)
-
-pub same-start : (us vs : List ℕ) → IsSame us vs 0
-same-start us vs = record { looked = omega arith; less = refl }
 
 looked-at : (us vs : List ℕ) (i a b : ℕ) → slice_get us i ≡ Some a → slice_get vs i ≡ Some b → units_looked (drop i us) (drop i vs) ≡ cond (a == b) (suc (units_looked (drop (suc i) us) (drop (suc i) vs))) 1
 looked-at us vs i a b e f = λ t. units_looked (dropped-one us i a e t) (dropped-one vs i b f t)

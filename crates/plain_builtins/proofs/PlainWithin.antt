@@ -1,15 +1,14 @@
 -- The abstract operations keep within the weights of their requests, where a charge gives r, which is enough for what any request weighs.
-use Rattle.std.proofs.Common.{ℕ, zero, suc, ℤ, ◌≤◌, ◌<◌, ◌+◌, ◌-◌, Bool, true, false, cond, Option, Some, None, Result, Ok, Err, List, [], ◌∷◌, ◌++◌, lit<, arith}
-use Rattle.std.specs.Prelude.{codes, nat_eq, nat_le, pos, min, int_lt, length}
+use Rattle.std.proofs.Common.{ℕ, zero, suc, ℤ, ◌≤◌, ◌<◌, ◌+◌, ◌-◌, Bool, true, false, Option, Some, None, Result, Ok, Err, List, [], ◌∷◌, ◌++◌, lit<, arith}
+use Rattle.std.specs.Prelude.{codes, nat_eq, nat_le, pos, min, int_lt}
 use Rattle.property_keys.specs.declared.identifiers.ObjectId.{ObjectId}
 use Rattle.property_keys.specs.declared.identifiers.TextId.{TextId}
 use Rattle.property_keys.specs.declared.keys.PropKey.{PropKey}
-use Rattle.property_keys.specs.declared.keys.PropKey.TheVariants.{Index, Name, Sym}
+use Rattle.property_keys.specs.declared.keys.PropKey.TheVariants.{Index, Name}
 use Rattle.property_keys.specs.declared.values.Value.{Value}
 use Rattle.property_keys.specs.declared.values.Value.TheVariants as value
 use Rattle.property_keys.specs.Decimals.{whole_units}
-use Rattle.property_keys.specs.Keys.{most_index, key_of}
-use Rattle.property_keys.specs.Values.{same_value}
+use Rattle.property_keys.specs.Keys.{most_index}
 use Rattle.property_keys.specs.Wholes.{most_whole}
 use Rattle.descriptors.specs.declared.fields.Descriptor.{Descriptor}
 use Rattle.descriptors.specs.Kinds.{is_of_both_kinds}
@@ -17,26 +16,25 @@ use Rattle.es_model.specs.declared.answers.Reply.TheVariants as reply
 use Rattle.es_model.specs.declared.kinds.ErrorKind.TheVariants as error
 use Rattle.es_model.specs.declared.requests.Operation.{Operation}
 use Rattle.es_model.specs.declared.requests.Operation.TheVariants as operation
-use Rattle.es_model.specs.declared.requests.Request.{Request}
-use Rattle.es_model.specs.declared.requests.Request.TheVariants.{Call, Proto, Work}
+use Rattle.es_model.specs.declared.requests.Request.TheVariants.{Call, Work}
 use Rattle.es_model.specs.Completions.{Completion, Normal}
-use Rattle.es_model.specs.World.{Lists, kind, units_of}
-use Rattle.es_model.specs.Program.{Program, done, look, charge, ask, intern}
-use Rattle.es_model.specs.Weights.{operation_weight, IsWithin, renewed_by}
+use Rattle.es_model.specs.World.{kind}
+use Rattle.es_model.specs.Program.{Program, done, look, ask, intern}
+use Rattle.es_model.specs.Weights.{operation_weight, IsWithin}
 use Rattle.es_model.specs.programs.Abrupt.{value_in, flag_in, proto_in, taken}
-use Rattle.es_model.specs.programs.Converting.{length_got, length_given, not_an_object, to_length}
-use Rattle.es_model.specs.programs.Errors.{throw_error, unfit, unwritten, not_a_function}
+use Rattle.es_model.specs.programs.Converting.{length_got, length_given, to_length}
+use Rattle.es_model.specs.programs.Errors.{throw_error, unwritten, not_a_function}
 use Rattle.es_model.specs.programs.Methods.{get, get_named}
 use Rattle.es_model.specs.programs.Testing.{as_object, is_callable, is_callable_kind, is_truth}
-use Rattle.es_model.proofs.SharedWithin.{error-within, get_named-within, has_named-within, then_method-within, then_whole-within, length_got-within}
+use Rattle.es_model.proofs.SharedWithin.{get_named-within, has_named-within, then_method-within, then_whole-within, length_got-within}
 use Rattle.es_model.proofs.Within.{go_on-within, within-cond, within-more}
-use Rattle.plain_builtins.specs.ArrayLikes.{wrong_value, gives_all, key_put, element_put, element_given, get_element, elements_left, elements_of, list_by, list_of}
-use Rattle.plain_builtins.specs.Comparisons.{says, equal_in, says_equal, numbered, primitives_equal, left_converted, right_converted, is_nullish, loosely_equal_by, loosely_equal, units_looked, units_less, texts_less, numbers_less, as_text, less_by, primitives_less, converted_by, converted, right_after, left_first, left_after, right_first, less_than}
-use Rattle.plain_builtins.specs.Conversions.{gives, cannot_convert, first_name, second_name, primitive_by, primitive_or, last_called, second_found, second_given, second_tried, first_called, first_found, first_given, ordinary_to_primitive, exotic_found, exotic_given, to_primitive_by, to_primitive, text_of, text_given, to_text_by, to_text, number_in, no_number, with_number, gives_number, whole_of, whole_given, to_whole_by, to_whole, gives_key, index_of, key_of_number, key_in, key_given, to_key_by, to_key}
-use Rattle.plain_builtins.specs.Instances.{most_rounds, same_object, parent_found, parent_given, instance_round, prototype_by, prototype_given, has_instance, handler_called, handler_found, handler_given, instance_of_by, instance_of}
+use Rattle.plain_builtins.specs.ArrayLikes.{gives_all, key_put, element_put, element_given, get_element, elements_left, elements_of, list_by}
+use Rattle.plain_builtins.specs.Comparisons.{says, equal_in, says_equal, numbered, primitives_equal, left_converted, right_converted, is_nullish, loosely_equal_by, numbers_less, as_text, less_by, primitives_less, converted_by, converted, right_after, left_first, left_after, right_first, less_than}
+use Rattle.plain_builtins.specs.Conversions.{cannot_convert, first_name, second_name, primitive_by, primitive_or, last_called, second_found, second_given, second_tried, first_called, first_found, first_given, ordinary_to_primitive, exotic_found, to_primitive_by, text_of, to_text_by, number_in, no_number, with_number, gives_number, whole_of, to_whole_by, index_of, key_of_number, key_in, to_key_by}
+use Rattle.plain_builtins.specs.Instances.{most_rounds, same_object, parent_found, instance_round, prototype_by, prototype_given, has_instance, handler_found, instance_of_by}
 use Rattle.plain_builtins.specs.Plain.{one_operand, two_operands, less_than_by, three_operands, operands_in, work_of, work_program, print_row, row_program}
-use Rattle.plain_builtins.specs.Printing.{line_printed, argument_given, print_left, print}
-use Rattle.plain_builtins.specs.WantedFields.{field_name, fields_after, wanted_done, is_accessor_value, field_put, field_given, field_is_there, field_had, fields_left, no_fields, wanted_by, to_wanted}
+use Rattle.plain_builtins.specs.Printing.{print_left, print}
+use Rattle.plain_builtins.specs.WantedFields.{field_name, fields_after, wanted_done, is_accessor_value, field_put, field_given, field_is_there, field_had, fields_left, no_fields, wanted_by}
 use Rattle.plain_builtins.specs.declared.words.Collected.{Collected}
 use Rattle.plain_builtins.specs.declared.words.Collected.TheVariants as collected
 use Rattle.plain_builtins.specs.declared.words.Field.{Field}

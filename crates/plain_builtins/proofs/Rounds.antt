@@ -1,5 +1,5 @@
 -- The next round of an algorithm, or its end, where so many rounds are left.
-use Rattle.std.proofs.Common.{◌≡◌, ℕ, suc, ◌-◌, false, Some, List, Result, Ok, refl, sym, subst}
+use Rattle.std.proofs.Common.{◌≡◌, ℕ, suc, false, Some, List, Result, Ok, refl, sym, subst}
 use Rattle.property_keys.specs.declared.identifiers.ObjectId.{ObjectId}
 use Rattle.property_keys.specs.declared.values.Value.{Value}
 use Rattle.descriptors.specs.declared.fields.Descriptor.{Descriptor}
@@ -8,7 +8,8 @@ use Rattle.es_model.specs.declared.answers.Completion.TheVariants as answer
 use Rattle.es_model.specs.declared.answers.Reply.TheVariants as reply
 use Rattle.es_model.specs.declared.answers.Turn.{Turn}
 use Rattle.es_model.specs.declared.answers.Turn.TheVariants.{Done}
-use Rattle.es_model.specs.Program.{charge}
+use Rattle.es_model.specs.Completions.{Completion}
+use Rattle.es_model.specs.Program.{Program}
 use Rattle.object_heap.specs.Stands.{HeapView, goes_none}
 use Rattle.plain_builtins.specs.ArrayLikes.{elements_left, gives_all, get_element}
 use Rattle.plain_builtins.specs.Comparisons.{says}
@@ -16,26 +17,24 @@ use Rattle.plain_builtins.specs.Counting.{IsAfterFirst}
 use Rattle.plain_builtins.specs.Instances.{instance_round, prototype_by}
 use Rattle.es_model.specs.programs.Testing.{as_object}
 use Rattle.plain_builtins.specs.Printing.{print_left}
-use Rattle.plain_builtins.specs.Rests.{program_after}
 use Rattle.plain_builtins.specs.Turns.{StopsAt}
 use Rattle.plain_builtins.specs.WantedFields.{fields_left}
 use Rattle.plain_builtins.specs.declared.words.Collected.{Collected}
 use Rattle.plain_builtins.specs.declared.words.Field.{Field}
 use Rattle.plain_builtins.specs.declared.frame.Listing.{Listing}
-use Rattle.plain_builtins.specs.declared.frame.ListedFrame.TheVariants.{ElementGiven}
 use Rattle.plain_builtins.specs.declared.frame.PlainFrame.{PlainFrame}
-use Rattle.plain_builtins.specs.declared.frame.PlainFrame.TheVariants.{Listed}
 
 pub no_element : (old new : HeapView) (f : Listing) (r : Result (Turn PlainFrame) Stop) → f.left ≡ 0 →
     StopsAt old new (gives_all f.collected) r → StopsAt old new (elements_left f.left f.length f.object f.collected) r
 no_element old new f r e h = subst (λ n. StopsAt old new (elements_left n f.length f.object f.collected) r) (sym e) h
 
-pub an_element : (old new : HeapView) (f : Listing) (left i : ℕ) (r : Result (Turn PlainFrame) Stop) → left ≡ suc f.left → i ≡ f.length - left →
-    StopsAt old new (charge 1 (get_element f.object i (program_after (Listed (ElementGiven f))))) r → StopsAt old new (elements_left left f.length f.object f.collected) r
-an_element old new f left i r e at h =
-    subst (λ n. StopsAt old new (elements_left n f.length f.object f.collected) r) (sym e)
-    (subst (λ n. StopsAt old new (charge 1 (get_element f.object (f.length - n) (program_after (Listed (ElementGiven f))))) r) e
-    (subst (λ j. StopsAt old new (charge 1 (get_element f.object j (program_after (Listed (ElementGiven f))))) r) at h))
+pub an_element : (old new : HeapView) (left fewer n : ℕ) (o : ObjectId) (all : Collected) (r : Result (Turn PlainFrame) Stop) → left ≡ suc fewer →
+    StopsAt old new (elements_left (suc fewer) n o all) r → StopsAt old new (elements_left left n o all) r
+an_element old new left fewer n o all r e h = subst (λ m. StopsAt old new (elements_left m n o all) r) (sym e) h
+
+pub same_index : (old new : HeapView) (o : ObjectId) (i j : ℕ) (next : Completion → Program) (r : Result (Turn PlainFrame) Stop) → i ≡ j →
+    StopsAt old new (get_element o i next) r → StopsAt old new (get_element o j next) r
+same_index old new o i j next r e h = subst (λ n. StopsAt old new (get_element o n next) r) e h
 
 pub no_round : (old : HeapView) (left : ℕ) (p x : ObjectId) → left ≡ 0 → StopsAt old old (instance_round left p x) (Ok (Done (answer.Normal (reply.Flag false))))
 no_round old left p x e =

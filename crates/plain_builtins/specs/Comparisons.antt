@@ -1,5 +1,5 @@
 -- IsLooselyEqual and IsLessThan (ECMA-262, 7.2.14, 7.2.13).
-use Rattle.std.specs.Prelude.{ℕ, zero, suc, ℤ, Bool, true, false, int_lt, nat_lt, ◌==◌, ◌||◌, if◌then◌else◌, Option, Some, None, Result, Ok, Err, List, [], ◌∷◌}
+use Rattle.std.specs.Prelude.{ℕ, suc, ℤ, Bool, true, false, int_lt, nat_lt, ◌==◌, if◌then◌else◌, Option, Some, None, Result, Ok, Err, List, [], ◌∷◌}
 use Rattle.std.specs.Ordering.{int_eq}
 use Rattle.property_keys.specs.declared.identifiers.ObjectId.{ObjectId}
 use Rattle.property_keys.specs.declared.identifiers.TextId.{TextId}

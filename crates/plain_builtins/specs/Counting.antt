@@ -1,5 +1,5 @@
 -- What is left of a count, of rounds, of the fields of a descriptor and of a list of arguments.
-use Rattle.std.specs.Prelude.{◌≡◌, ℕ, zero, suc, Option, Some, None, List, [], ◌∷◌}
+use Rattle.std.specs.Prelude.{◌≡◌, ℕ, suc, Option, Some, None, List, [], ◌∷◌}
 use Rattle.property_keys.specs.declared.values.Value.{Value}
 use Rattle.plain_builtins.specs.Instances.{most_rounds}
 use Rattle.plain_builtins.specs.WantedFields.{fields_after}

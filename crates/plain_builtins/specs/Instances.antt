@@ -1,5 +1,5 @@
 -- InstanceofOperator and OrdinaryHasInstance (ECMA-262, 13.10.2, 7.3.21).
-use Rattle.std.specs.Prelude.{ℕ, zero, suc, ◌^◌, ◌-◌, Bool, true, false, nat_eq, if◌then◌else◌, Option, Some, None, List, [], ◌∷◌, codes}
+use Rattle.std.specs.Prelude.{ℕ, zero, suc, ◌^◌, Bool, true, false, nat_eq, if◌then◌else◌, Option, Some, None, [], ◌∷◌, codes}
 use Rattle.property_keys.specs.declared.identifiers.ObjectId.{ObjectId}
 use Rattle.property_keys.specs.declared.keys.PropKey.TheVariants.{Sym}
 use Rattle.property_keys.specs.declared.values.Value.{Value}

@@ -1,5 +1,5 @@
 -- The requests that come here: abstract operations, calls of built-in functions after their entering, and calls and constructions of what has no such method.
-use Rattle.std.specs.Prelude.{ℕ, Bool, true, nat_eq, if◌then◌else◌, List, [], ◌∷◌}
+use Rattle.std.specs.Prelude.{ℕ, true, nat_eq, if◌then◌else◌, List, [], ◌∷◌}
 use Rattle.property_keys.specs.declared.identifiers.ObjectId.{ObjectId}
 use Rattle.property_keys.specs.declared.values.Value.{Value}
 use Rattle.property_keys.specs.declared.values.Value.TheVariants as value
@@ -9,8 +9,7 @@ use Rattle.es_model.specs.declared.kinds.ObjectKind.TheVariants as kind_of
 use Rattle.es_model.specs.declared.requests.Operation.{Operation}
 use Rattle.es_model.specs.declared.requests.Operation.TheVariants as operation
 use Rattle.es_model.specs.declared.requests.Request.{Request}
-use Rattle.es_model.specs.declared.requests.Request.TheVariants.{GetOwn, Define, Has, Read, Write, Delete, Keys, Proto}
-use Rattle.es_model.specs.declared.requests.Request.TheVariants.{SetProto, Extensible, Prevent, Call, Construct, Work, Print}
+use Rattle.es_model.specs.declared.requests.Request.TheVariants.{Call, Construct, Work}
 use Rattle.es_model.specs.StartObjects.{start_number}
 use Rattle.es_model.specs.World.{Lists, kind}
 use Rattle.es_model.specs.Program.{Program, look}

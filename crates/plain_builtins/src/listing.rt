@@ -1,12 +1,12 @@
 //! CreateListFromArrayLike (ECMA-262, 7.3.19), with LengthOfArrayLike (7.3.18).
 
-ghost use Rattle.std.specs.Prelude.{◌≡◌, ◌∷◌, ◌++◌, [], min, pos};
+ghost use Rattle.std.specs.Prelude.{◌≡◌, ◌∷◌, ◌++◌, ◌-◌, [], min, pos, suc};
 ghost use Rattle.std.specs.List.{AllByRecursion};
 ghost use Rattle.property_keys.specs.Decimals.{whole_units};
 ghost use Rattle.property_keys.specs.Keys.{key_of};
 ghost use Rattle.property_keys.specs.Wholes.{most_whole};
 ghost use Rattle.property_keys.specs.declared.keys.PropKey.TheVariants.{Name};
-ghost use Rattle.es_model.specs.Program.{charge, intern};
+ghost use Rattle.es_model.specs.Program.{intern};
 ghost use Rattle.es_model.specs.Fits.{IsKnownCompletion, IsKnownReply};
 ghost use Rattle.es_model.specs.Known.{AreKnown, IsKnown, IsKnownKey, IsObject, IsText};
 ghost use Rattle.es_model.specs.programs.Methods.{get};
@@ -14,9 +14,6 @@ ghost use Rattle.es_model.specs.programs.Converting.{length_given, length_got, t
 ghost use Rattle.object_heap.specs.Stands.{StandsFor};
 ghost use Rattle.plain_builtins.specs.ArrayLikes.{element_given, element_put, elements_left, elements_of, get_element, gives_all, key_put, list_of};
 ghost use Rattle.plain_builtins.specs.Names.{collected_reply};
-ghost use Rattle.plain_builtins.specs.Rests.{program_after};
-ghost use Rattle.plain_builtins.specs.declared.frame.ListedFrame.TheVariants.{ElementGiven};
-ghost use Rattle.plain_builtins.specs.declared.frame.PlainFrame.TheVariants.{Listed};
 ghost use Rattle.plain_builtins.specs.declared.words.Collected.TheVariants as collected;
 ghost use Rattle.es_model.specs.Completions.{answered};
 ghost use Rattle.es_model.specs.World.{World, units_of};
@@ -153,7 +150,7 @@ fn to_length(n: i64) -> u64
 }
 
 /// The next round of step 6, or its end.
-#[tactic(auto, using(crate::proofs::Rounds::no_element))]
+#[tactic(auto, using(crate::proofs::Rounds::no_element, crate::proofs::Rounds::an_element))]
 fn next_element(heap: &mut Heap, listing: Listing) -> Result<Turn<PlainFrame>, Stop>
     ensures stops { StopsAt heap.old heap.new (elements_left listing.left listing.length listing.object listing.collected) result }
     ensures named { (w : World) → IsObject w.lists listing.object → IsKnownReply w.lists (collected_reply listing.collected) → KeepsNamed names_of w result }
@@ -167,14 +164,14 @@ fn next_element(heap: &mut Heap, listing: Listing) -> Result<Turn<PlainFrame>, S
     } = listing;
     match take_one(left) {
         None => gives_all(heap, collected),
-        Some(fewer) => {
+        Some(left) => {
             let next = Listing {
-                left: fewer,
+                left,
                 length,
                 object,
                 collected,
             };
-            element_round(heap, length.saturating_sub(left), next)
+            element_round(heap, next)
         }
     }
 }
@@ -191,20 +188,38 @@ fn gives_all(heap: &mut Heap, collected: Collected) -> Result<Turn<PlainFrame>, 
     }
 }
 
-/// A round of step 6, for a turn: the element at an index is asked for.
+/// A round of step 6, behind which so many elements are left: its turn, and its element.
 #[tactic(auto, using(object_heap::specs::Stands::goes_none, object_heap::specs::Stands::goes_then, object_heap::specs::Stands::halts_at, object_heap::specs::Stops::stops_then, object_heap::proofs::Retaining::retains_none, object_heap::proofs::Retaining::retains_then, object_heap::proofs::Turns::named_ask, object_heap::proofs::Turns::named_done, object_heap::proofs::Turns::named_stop))]
-fn element_round(heap: &mut Heap, index: u64, listing: Listing) -> Result<Turn<PlainFrame>, Stop>
-    ensures stops { StopsAt heap.old heap.new (charge 1 (get_element listing.object index (program_after (Listed (ElementGiven listing))))) result }
+fn element_round(heap: &mut Heap, listing: Listing) -> Result<Turn<PlainFrame>, Stop>
+    ensures stops { StopsAt heap.old heap.new (elements_left (suc listing.left) listing.length listing.object listing.collected) result }
     ensures named { (w : World) → IsObject w.lists listing.object → IsKnownReply w.lists (collected_reply listing.collected) → KeepsNamed names_of w result }
     ensures retains { Retains heap.old heap.new }
 {
     heap.charge(1)?;
+    get_next_element(heap, listing)
+}
+
+/// The element behind which so many are left.
+#[tactic(auto, using(crate::proofs::Rounds::same_index))]
+fn get_next_element(heap: &mut Heap, listing: Listing) -> Result<Turn<PlainFrame>, Stop>
+    ensures stops { StopsAt heap.old heap.new (get_element listing.object (listing.length - suc listing.left) (element_given (elements_left listing.left listing.length listing.object) listing.collected)) result }
+    ensures named { (w : World) → IsObject w.lists listing.object → IsKnownReply w.lists (collected_reply listing.collected) → KeepsNamed names_of w result }
+    ensures retains { Retains heap.old heap.new }
+{
+    let index = index_before(listing.length, listing.left);
     get_element(heap, index, listing)
+}
+
+/// The index of the element behind which so many are left.
+fn index_before(length: u64, left: u64) -> u64
+    ensures { result ≡ length - suc left }
+{
+    length.saturating_sub(left).saturating_sub(1)
 }
 
 /// The element at an index.
 fn get_element(heap: &mut Heap, index: u64, listing: Listing) -> Result<Turn<PlainFrame>, Stop>
-    ensures stops { StopsAt heap.old heap.new (get_element listing.object index (program_after (Listed (ElementGiven listing)))) result }
+    ensures stops { StopsAt heap.old heap.new (get_element listing.object index (element_given (elements_left listing.left listing.length listing.object) listing.collected)) result }
     ensures named { (w : World) → IsObject w.lists listing.object → IsKnownReply w.lists (collected_reply listing.collected) → KeepsNamed names_of w result }
     ensures retains { Retains heap.old heap.new }
 {
@@ -219,7 +234,7 @@ fn get_element(heap: &mut Heap, index: u64, listing: Listing) -> Result<Turn<Pla
 
 /// The element at an index that is past those of arrays.
 fn get_far_element(heap: &mut Heap, index: u64, listing: Listing) -> Result<Turn<PlainFrame>, Stop>
-    ensures stops { StopsAt heap.old heap.new (intern (whole_units (pos (min index most_whole))) (λ t. get listing.object (Name t) (program_after (Listed (ElementGiven listing))))) result }
+    ensures stops { StopsAt heap.old heap.new (intern (whole_units (pos (min index most_whole))) (λ t. get listing.object (Name t) (element_given (elements_left listing.left listing.length listing.object) listing.collected))) result }
     ensures named { (w : World) → IsObject w.lists listing.object → IsKnownReply w.lists (collected_reply listing.collected) → KeepsNamed names_of w result }
     ensures retains { Retains heap.old heap.new }
 {

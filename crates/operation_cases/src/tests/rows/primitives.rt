@@ -86,8 +86,8 @@ pub(crate) static TEXT_FIRST: [Row; 10] = [
     Row(Step::Left, Seen::Turns(8)),
 ];
 
-/// A method under @@toPrimitive is called with the hint, for no turn.
-pub(crate) static OWN_METHOD: [Row; 18] = [
+/// A method under @@toPrimitive is called with the hint, for no turn, and what it throws is thrown on.
+pub(crate) static OWN_METHOD: [Row; 21] = [
     Row(
         Step::Start(Question::One(Operation::ToPrimitiveText, Value::Object(ObjectId(2)))),
         Seen::AsksRead(ObjectId(2), PropKey::Sym(SymbolId(1))),
@@ -160,6 +160,19 @@ pub(crate) static OWN_METHOD: [Row; 18] = [
         Step::Message(ObjectId(30)),
         Seen::Property(Some(MESSAGE_33)),
     ),
+    Row(
+        Step::Start(Question::One(Operation::ToPrimitiveText, Value::Object(ObjectId(2)))),
+        Seen::AsksRead(ObjectId(2), PropKey::Sym(SymbolId(1))),
+    ),
+    Row(
+        Step::Answer(Given::Value(Value::Object(ObjectId(1)))),
+        Seen::AsksCall(
+            Value::Object(ObjectId(1)),
+            Value::Object(ObjectId(2)),
+            Few(1, Some(Value::Text(TextId(29))), None),
+        ),
+    ),
+    Row(Step::Answer(Given::Thrown(FIVE)), Seen::Thrown(FIVE)),
 ];
 
 /// What is thrown at each point of ToPrimitive is thrown on.
