@@ -25,7 +25,7 @@ use Rattle.es_model.specs.Objects.{Object, object_at}
 use Rattle.es_model.specs.StartObjects.{object_of, start_number}
 use Rattle.es_model.specs.World.{Lists, World, units_of}
 use Rattle.es_model.specs.Program.{Outcome, Ended, Halt, Of, Server, done, run}
-use Rattle.es_model.specs.programs.Converting.{to_object}
+use Rattle.es_model.specs.programs.Converting.{number, to_object, to_uint32}
 use Rattle.plain_builtins.specs.Plain.{print_row, row_program, work_program}
 use Rattle.small_worlds.specs.SmallWorlds.{a_function, at, gives, object, plain, says, whole}
 
@@ -135,6 +135,18 @@ PrimitiveStays = seen (outcome silent mute operation.ToPrimitiveText (word 13 �
 
 abbrev pub SymbolStays : Type 0
 SymbolStays = seen (outcome silent mute operation.ToPrimitiveDefault (a_symbol ∷ [])) ≡ (gives a_symbol, 10, 0)
+
+abbrev pub UndefinedStays : Type 0
+UndefinedStays = seen (outcome silent mute operation.ToPrimitiveNumber (value.Undefined ∷ [])) ≡ (gives value.Undefined, 10, 0)
+
+abbrev pub NullStays : Type 0
+NullStays = seen (outcome silent mute operation.ToPrimitiveDefault (value.Null ∷ [])) ≡ (gives value.Null, 10, 0)
+
+abbrev pub TruthStays : Type 0
+TruthStays = seen (outcome silent mute operation.ToPrimitiveText (value.Bool true ∷ [])) ≡ (gives (value.Bool true), 10, 0)
+
+abbrev pub NumberStays : Type 0
+NumberStays = seen (outcome silent mute operation.ToPrimitiveText (value.Whole (negsuc 4) ∷ [])) ≡ (gives (value.Whole (negsuc 4)), 10, 0)
 
 -- with number valueOf comes first: a read, then a turn, a read and a call
 abbrev pub NumberTriesValueOf : Type 0
@@ -297,6 +309,21 @@ NumberOfNothing = seen (outcome silent mute operation.ToWhole (word 13 ∷ [])) 
 -- 2 ^ 53 is out of the range
 abbrev pub NumberTooGreat : Type 0
 NumberTooGreat = thrown (outcome silent mute operation.ToWhole (word 14 ∷ [])) ≡ range_error (codes "number outside the profile")
+
+-- ---- ToUint32 (7.1.7): what is no number is converted first, for a request
+
+abbrev pub unsigned_of : (ℕ → Value → Completion) → Value → Outcome
+unsigned_of calls v = run (server silent calls) (to_uint32 v (λ n. done (number n))) 0 (room 10)
+
+abbrev pub UnsignedOfNegative : Type 0
+UnsignedOfNegative = seen (unsigned_of mute (value.Whole (negsuc 0))) ≡ (gives (whole 4294967295), 10, 0)
+
+-- function 2 stands for the conversion, and gives 2 ^ 32 and 3 more
+abbrev pub above_32_bits : ℕ → Value → Completion
+above_32_bits f v = gives (whole 4294967299)
+
+abbrev pub UnsignedOfText : Type 0
+UnsignedOfText = seen (unsigned_of above_32_bits (word 15)) ≡ (gives (whole 3), 10, 1)
 
 -- ---- ToPropertyKey (7.1.19)
 
@@ -518,11 +545,28 @@ FirstIsFirst = seen (run throws_line (row_program print_row (word 16 ∷ word 15
 abbrev pub PrintThrows : Type 0
 PrintThrows = seen (run throws_operand (row_program print_row (word 16 ∷ word 15 ∷ [])) 0 (room 10)) ≡ (Throw (word 16), 9, 1)
 
--- ---- ToObject (7.1.18)
+-- ---- ToObject (7.1.18): the object that it gives; a new one is object 6
+
+abbrev pub object_for : Value → Outcome
+object_for v = run (server silent mute) (to_object v (λ o. done (gives (value.Object o)))) 0 (room 10)
 
 abbrev pub WrapsNumber : Type 0
-WrapsNumber = seen (run (server silent mute) (to_object (whole 7) (λ o. done (gives (value.Object o)))) 0 (room 10)) ≡ (gives (object 6), 10, 0)
+WrapsNumber = seen (object_for (whole 7)) ≡ (gives (object 6), 10, 0)
+
+abbrev pub WrapsTruth : Type 0
+WrapsTruth = seen (object_for (value.Bool false)) ≡ (gives (object 6), 10, 0)
+
+abbrev pub WrapsSymbol : Type 0
+WrapsSymbol = seen (object_for a_symbol) ≡ (gives (object 6), 10, 0)
+
+abbrev pub WrapsText : Type 0
+WrapsText = seen (object_for (word 17)) ≡ (gives (object 6), 10, 0)
+
+abbrev pub ObjectIsItself : Type 0
+ObjectIsItself = seen (object_for (object 4)) ≡ (gives (object 4), 10, 0)
 
 abbrev pub UndefinedIsNoObject : Type 0
-UndefinedIsNoObject =
-    thrown (run (server silent mute) (to_object value.Undefined (λ o. done (gives (value.Object o)))) 0 (room 10)) ≡ type_error (codes "not an object")
+UndefinedIsNoObject = thrown (object_for value.Undefined) ≡ type_error (codes "not an object")
+
+abbrev pub NullIsNoObject : Type 0
+NullIsNoObject = thrown (object_for value.Null) ≡ type_error (codes "not an object")

@@ -1,12 +1,16 @@
 //! Worked examples of the abstract operations.
 
-ghost use Rattle.small_worlds.specs.Conversations.{DefaultPassesOverObject, DefaultThrows, DefaultTriesValueOf, EnumerableIsFirst, FirstIsFirst, GetIsNoFunction, HaltsAtSecond, HandlerDecides, HintOfDefault, HintOfNumber, HintOfText, InstanceHalts, IsInstance, IsNoInstance, KeyOfIndex, KeyOfNull, KeyOfObject, KeyOfOne, KeyOfSymbol, KeyOfText, KeyOfTruth, KeyOfUndefined, KeyOfZeros, KeysAreKeys, LeftIsFirst, LengthIsConverted, ListHalts, ListKeepsLength, ListOfTwo, MixedThrows, NegativeLength, NoFunctionIsPassedOver, NoLength, NoMethodThrows, NoNumberIsLess, NoNumberThrows, NothingIsLess, NullIsNoZero, NullIsUndefined, NumberOfBinary, NumberOfNothing, NumberOfNull, NumberOfNumber, NumberOfObject, NumberOfPlus, NumberOfSignedHex, NumberOfSymbol, NumberOfTruth, NumberOfUndefined, NumberOfZeros, NumbersInOrder, NumberTooGreat, NumberTriesValueOf, ObjectIsNotNull, ObjectIsPassedOver, ObjectIsText, OwnMethodGivesObject, OwnMethodNoFunction, OwnMethodThrows, PrimitiveIsNoInstance, PrimitiveStays, PrintGivesUndefined, PrintThrows, PrototypeIsNoObject, RightIsFirst, SymbolIsNoText, SymbolIsObject, SymbolStays, TargetIsNoFunction, TargetIsNoObject, TextIsNumber, TextOfNull, TextOfNumber, TextOfObject, TextOfSymbol, TextOfText, TextOfTruth, TextOfUndefined, TextPassesOverNoFunction, TextsInOrder, TextThrows, TextTriesToString, ThrowIsPassedOn, TruthIsText, TwoObjectsThrow, UndefinedIsNoObject, ValueIsThird, WantedIsNoObject, WrapsNumber};
+ghost use Rattle.small_worlds.specs.Conversations.{DefaultPassesOverObject, DefaultThrows, DefaultTriesValueOf, EnumerableIsFirst, FirstIsFirst, GetIsNoFunction, HaltsAtSecond, HandlerDecides, HintOfDefault, HintOfNumber, HintOfText, InstanceHalts, IsInstance, IsNoInstance, KeyOfIndex, KeyOfNull, KeyOfObject, KeyOfOne, KeyOfSymbol, KeyOfText, KeyOfTruth, KeyOfUndefined, KeyOfZeros, KeysAreKeys, LeftIsFirst, LengthIsConverted, ListHalts, ListKeepsLength, ListOfTwo, MixedThrows, NegativeLength, NoFunctionIsPassedOver, NoLength, NoMethodThrows, NoNumberIsLess, NoNumberThrows, NothingIsLess, NullIsNoObject, NullIsNoZero, NullIsUndefined, NullStays, NumberOfBinary, NumberOfNothing, NumberOfNull, NumberOfNumber, NumberOfObject, NumberOfPlus, NumberOfSignedHex, NumberOfSymbol, NumberOfTruth, NumberOfUndefined, NumberOfZeros, NumbersInOrder, NumberStays, NumberTooGreat, NumberTriesValueOf, ObjectIsItself, ObjectIsNotNull, ObjectIsPassedOver, ObjectIsText, OwnMethodGivesObject, OwnMethodNoFunction, OwnMethodThrows, PrimitiveIsNoInstance, PrimitiveStays, PrintGivesUndefined, PrintThrows, PrototypeIsNoObject, RightIsFirst, SymbolIsNoText, SymbolIsObject, SymbolStays, TargetIsNoFunction, TargetIsNoObject, TextIsNumber, TextOfNull, TextOfNumber, TextOfObject, TextOfSymbol, TextOfText, TextOfTruth, TextOfUndefined, TextPassesOverNoFunction, TextsInOrder, TextThrows, TextTriesToString, ThrowIsPassedOn, TruthIsText, TruthStays, TwoObjectsThrow, UndefinedIsNoObject, UndefinedStays, UnsignedOfNegative, UnsignedOfText, ValueIsThird, WantedIsNoObject, WrapsNumber, WrapsSymbol, WrapsText, WrapsTruth};
 
 /// ToPrimitive with each hint: which method is tried, what it is told, and what it may give.
 #[tactic(auto, unfolding(es_model::specs::Changes::changed, es_model::specs::Changes::charged, es_model::specs::Changes::added, es_model::specs::Changes::made, es_model::specs::Changes::text_known, es_model::specs::World::allows, es_model::specs::World::number_of))]
 pub fn primitives_are_converted()
     ensures primitive_stays { PrimitiveStays }
     ensures symbol_stays { SymbolStays }
+    ensures undefined_stays { UndefinedStays }
+    ensures null_stays { NullStays }
+    ensures truth_stays { TruthStays }
+    ensures number_stays { NumberStays }
     ensures number_tries_value_of { NumberTriesValueOf }
     ensures default_tries_value_of { DefaultTriesValueOf }
     ensures text_tries_to_string { TextTriesToString }
@@ -40,7 +44,7 @@ pub fn texts_are_made()
     ensures text_of_object { TextOfObject }
 {}
 
-/// ToNumber of each kind of value.
+/// ToNumber of each kind of value, and ToUint32.
 #[tactic(auto, unfolding(es_model::specs::Changes::changed, es_model::specs::Changes::charged, es_model::specs::Changes::added, es_model::specs::Changes::made, es_model::specs::Changes::text_known, es_model::specs::World::allows, es_model::specs::World::number_of))]
 pub fn numbers_are_read()
     ensures number_of_undefined { NumberOfUndefined }
@@ -55,6 +59,8 @@ pub fn numbers_are_read()
     ensures number_of_zeros { NumberOfZeros }
     ensures number_of_nothing { NumberOfNothing }
     ensures number_too_great { NumberTooGreat }
+    ensures unsigned_of_negative { UnsignedOfNegative }
+    ensures unsigned_of_text { UnsignedOfText }
 {}
 
 /// ToPropertyKey of each kind of value.
@@ -139,9 +145,14 @@ pub fn lines_are_asked_for()
     ensures print_throws { PrintThrows }
 {}
 
-/// ToObject of a primitive.
+/// ToObject of each kind of value.
 #[tactic(auto, unfolding(es_model::specs::Changes::changed, es_model::specs::Changes::charged, es_model::specs::Changes::added, es_model::specs::Changes::made, es_model::specs::Changes::text_known, es_model::specs::World::allows, es_model::specs::World::number_of))]
 pub fn objects_are_wrapped()
     ensures wraps_number { WrapsNumber }
+    ensures wraps_truth { WrapsTruth }
+    ensures wraps_symbol { WrapsSymbol }
+    ensures wraps_text { WrapsText }
+    ensures object_is_itself { ObjectIsItself }
     ensures undefined_is_no_object { UndefinedIsNoObject }
+    ensures null_is_no_object { NullIsNoObject }
 {}
