@@ -1,6 +1,6 @@
 #!/usr/bin/env hcjs
-/* The same items as in first.js, in another layout:
-   comments, line breaks, no semicolons where a line ends. */
+/* Comments, line breaks, parentheses, no semicolons where a line ends,
+   and a number in base 16. */
 let
   o = {}          // the object
 

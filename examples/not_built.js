@@ -1,3 +1,3 @@
-let o = {};
-o.a = 7;
-print(o.a); print(o["a"]);
+let o = { a: 7 };
+print(o.a);
+print(o["a"], [o.a]);

@@ -1,4 +1,4 @@
-//! Rows for the whole reader and its host: sources with their tokens, trees and faults, and calls of the host with what they leave.
+//! Rows for the whole reader: sources with their tokens, trees and faults.
 #![tactic(auto)]
 
 #[cfg(test)]

@@ -1,11 +1,9 @@
 pub mod Drops
-pub mod FirstObjects
-pub mod FirstRuns
-pub mod Lines
-pub mod Numbers
+pub mod Written
+pub mod Looks
+pub mod Places
 pub mod Readings
 pub mod ReadPhases
+pub mod Runs
 pub mod Settled
-pub mod Texts
-pub mod Unfit
 pub mod Whole

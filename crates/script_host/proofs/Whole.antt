@@ -11,12 +11,14 @@ use Rattle.hc_outside.specs.Files.{bytes_named}
 use Rattle.script_rules.specs.FirstFault.{HasFirstFault, at_tokens}
 use Rattle.script_host.specs.declared.status.Status.TheVariants as status
 use Rattle.es_source.specs.Reading.{most_bytes}
-use Rattle.script_host.specs.Answers.{Answer, Finishes, Misuses, Faults, Unbuilt, CannotRead, IsAnswer, IsAsked, IsAskedOfFile, FilesChange, file_of}
+use Rattle.script_host.specs.Answers.{Answer, Runs, Misuses, Faults, Unbuilt, CannotRead, IsAnswer, IsAsked, IsAskedOfFile, FilesChange, file_of}
 use Rattle.script_host.specs.FileBytes.{IsReadOf}
-use Rattle.script_host.specs.FirstItems.{unbuilt, lines_of}
-use Rattle.script_host.specs.FirstOutput.{printed}
-use Rattle.script_host.specs.Laws.{HasOneAnswer, HasReading, HasFault, HasTree, SpeaksOfWholeFile}
-use Rattle.script_host.specs.Leaves.{IsRefusal}
+use Rattle.script_host.specs.Expected.{Expected, expected}
+use Rattle.script_host.specs.Unbuilt.{unbuilt}
+use Rattle.script_host.specs.declared.status.Status.{Status}
+use Rattle.script_host.specs.Sinks.{SinkChange}
+use Rattle.script_host.specs.Laws.{HasOneAnswer, HasReading, HasFault, HasTree, RunsRight, SpeaksOfWholeFile}
+use Rattle.script_host.specs.Leaves.{IsRefusal, LeavesRun}
 use Rattle.script_host.proofs.Readings.{one_reading, only_at_tokens, no_tree, some_none}
 
 -- ---- one answer
@@ -24,7 +26,7 @@ use Rattle.script_host.proofs.Readings.{one_reading, only_at_tokens, no_tree, so
 fault_alone : (bytes : List ℕ) (f : SourceFault) → HasFault bytes f → (other : Answer) → IsAnswer bytes other → other ≡ Faults f
 fault_alone bytes f has (Faults g) given = ap Faults (has.1 g given)
 fault_alone bytes f has (Unbuilt place) given = absurd (has.2 given.0 given.1)
-fault_alone bytes f has (Finishes output) given = absurd (has.2 given.0 given.1)
+fault_alone bytes f has (Runs e) given = absurd (has.2 given.0 given.1)
 fault_alone bytes f has Misuses given = absurd given
 fault_alone bytes f has (CannotRead name) given = absurd given
 
@@ -34,21 +36,21 @@ same_place p q e = cc
 unbuilt_alone : (bytes : List ℕ) (t : Tree) (place : Place) → HasTree bytes t → unbuilt t ≡ Some place → (other : Answer) → IsAnswer bytes other → other ≡ Unbuilt place
 unbuilt_alone bytes t place has is (Faults g) given = absurd (has.2 g given)
 unbuilt_alone bytes t place has is (Unbuilt found) given = ap Unbuilt (same_place found place (sym given.2 ∙ ap unbuilt (has.1 given.0 given.1) ∙ is))
-unbuilt_alone bytes t place has is (Finishes output) given = absurd (some_none place (sym is ∙ ap unbuilt (sym (has.1 given.0 given.1)) ∙ given.2))
+unbuilt_alone bytes t place has is (Runs e) given = absurd (some_none place (sym is ∙ ap unbuilt (sym (has.1 given.0 given.1)) ∙ given.2))
 unbuilt_alone bytes t place has is Misuses given = absurd given
 unbuilt_alone bytes t place has is (CannotRead name) given = absurd given
 
-output_alone : (bytes : List ℕ) (t : Tree) → HasTree bytes t → unbuilt t ≡ None → (other : Answer) → IsAnswer bytes other → other ≡ Finishes (printed (lines_of t))
+output_alone : (bytes : List ℕ) (t : Tree) → HasTree bytes t → unbuilt t ≡ None → (other : Answer) → IsAnswer bytes other → other ≡ Runs (expected t)
 output_alone bytes t has is (Faults g) given = absurd (has.2 g given)
 output_alone bytes t has is (Unbuilt found) given = absurd (some_none found (sym given.2 ∙ ap unbuilt (has.1 given.0 given.1) ∙ is))
-output_alone bytes t has is (Finishes output) given = ap Finishes (given.3 ∙ ap (λ (u : Tree). printed (lines_of u)) (has.1 given.0 given.1))
+output_alone bytes t has is (Runs e) given = ap Runs (given.3 ∙ ap expected (has.1 given.0 given.1))
 output_alone bytes t has is Misuses given = absurd given
 output_alone bytes t has is (CannotRead name) given = absurd given
 
 tree_answer : (bytes : List ℕ) (t : Tree) (place : Option Place) → HasTree bytes t → unbuilt t ≡ place
     → (answer : Answer) × IsAnswer bytes answer × ((other : Answer) → IsAnswer bytes other → other ≡ answer)
 tree_answer bytes t (Some place) has is = (Unbuilt place, (t, has.0, is), unbuilt_alone bytes t place has is)
-tree_answer bytes t None has is = (Finishes (printed (lines_of t)), (t, has.0, is, refl), output_alone bytes t has is)
+tree_answer bytes t None has is = (Runs (expected t), (t, has.0, is, refl), output_alone bytes t has is)
 
 answer_of : (bytes : List ℕ) → HasReading bytes → (answer : Answer) × IsAnswer bytes answer × ((other : Answer) → IsAnswer bytes other → other ≡ answer)
 answer_of bytes (inl fault) = (Faults fault.0, fault.1.0, fault_alone bytes fault.0 fault.1)
@@ -80,7 +82,7 @@ long_right bytes whole (Faults f) front long given =
     let same : f ≡ fault_at TooLong (place_after []) = only_at_tokens bytes (fault_at TooLong (place_after [])) f (Some f) (too_long bytes front) given refl in
     subst (λ (g : SourceFault). HasFirstFault whole (Some g)) (sym same) (at_tokens (too_long whole long))
 long_right bytes whole (Unbuilt place) front long given = absurd (no_tree bytes _ given.0 (too_long bytes front) given.1)
-long_right bytes whole (Finishes output) front long given = absurd (no_tree bytes _ given.0 (too_long bytes front) given.1)
+long_right bytes whole (Runs e) front long given = absurd (no_tree bytes _ given.0 (too_long bytes front) given.1)
 long_right bytes whole Misuses front long given = absurd given
 long_right bytes whole (CannotRead name) front long given = absurd given
 
@@ -100,18 +102,22 @@ refusal_right : (words : List (List ℕ)) (files : FilesChange) (all : List (Lis
     → file_of words ≡ Some name → bytes_named all name ≡ Some whole → IsRefusal answer → IsAsked words files answer → IsAnswer whole answer
 refusal_right words files all name whole (Faults f) held word told refuses asked = file_right words files all name whole (Faults f) held word told asked
 refusal_right words files all name whole (Unbuilt p) held word told refuses asked = file_right words files all name whole (Unbuilt p) held word told asked
-refusal_right words files all name whole (Finishes output) held word told refuses asked = absurd refuses
+refusal_right words files all name whole (Runs e) held word told refuses asked = absurd refuses
 refusal_right words files all name whole Misuses held word told refuses asked = absurd refuses
 refusal_right words files all name whole (CannotRead other) held word told refuses asked = absurd refuses
 
+run_right : (words : List (List ℕ)) (files : FilesChange) (out err : SinkChange) (left : Status) (all : List (List ℕ × List ℕ)) (name whole : List ℕ) → files.held ≡ Some all
+    → file_of words ≡ Some name → bytes_named all name ≡ Some whole → LeavesRun words files out err left → RunsRight whole out err left
+run_right words files out err left all name whole held word told run =
+    (run.0, run.1, file_right words files all name whole (Runs run.0) held word told run.2, run.3, run.4)
+
 pub whole_file : SpeaksOfWholeFile
-whole_file words files out err status.Finished all name whole left held word told =
-    (left.0, file_right words files all name whole (Finishes left.0) held word told left.1, left.2)
+whole_file words files out err status.Finished all name whole left held word told = run_right words files out err status.Finished all name whole held word told left
 whole_file words files out err status.Refused all name whole left held word told =
     (left.0, left.1, refusal_right words files all name whole left.0 held word told left.1 left.2, left.4)
 whole_file words files out err status.Usage all name whole left held word told = absurd (some_none name (sym word ∙ left.0.0))
-whole_file words files out err status.Thrown all name whole left held word told = left
-whole_file words files out err status.BudgetEnded all name whole left held word told = left
+whole_file words files out err status.Thrown all name whole left held word told = run_right words files out err status.Thrown all name whole held word told left
+whole_file words files out err status.BudgetEnded all name whole left held word told = run_right words files out err status.BudgetEnded all name whole held word told left
 whole_file words files out err status.ReadFault all name whole left held word told = tt
 whole_file words files out err status.WriteFault all name whole left held word told = tt
 whole_file words files out err status.NoMemory all name whole left held word told = tt

@@ -12,8 +12,8 @@ use Rattle.script_rules.specs.FirstFault.{HasFirstFault}
 use Rattle.es_source.specs.Codes.{code_number, fault_name}
 use Rattle.es_source.specs.Reading.{most_bytes}
 use Rattle.script_host.specs.FileBytes.{IsReadOf}
-use Rattle.script_host.specs.FirstItems.{unbuilt, lines_of}
-use Rattle.script_host.specs.FirstOutput.{printed}
+use Rattle.script_host.specs.Expected.{Expected, expected}
+use Rattle.script_host.specs.Unbuilt.{unbuilt}
 
 abbrev pub begins_with_dash : List ℕ → Bool
 begins_with_dash [] = false
@@ -26,20 +26,20 @@ file_of (name ∷ []) = if begins_with_dash name then None else Some name
 file_of (name ∷ other ∷ words) = None
 
 pub data Answer : Type 0 where
-  -- the script runs to its end and prints this
-  Finishes : List ℕ → Answer
+  -- the script runs, and is expected to put this out
+  Runs : Expected → Answer
   -- the words are not of the form above
   Misuses : Answer
   -- the script has this first fault
   Faults : SourceFault → Answer
-  -- the script has no fault, and its first item that does not run yet stands here
+  -- the script has no fault, and what does not run yet stands here first
   Unbuilt : Place → Answer
   -- the file of this name cannot be read
   CannotRead : List ℕ → Answer
 
 -- what it puts on the output
 abbrev pub output_of : Answer → List ℕ
-output_of (Finishes output) = output
+output_of (Runs e) = e.output
 output_of Misuses = []
 output_of (Faults fault) = []
 output_of (Unbuilt place) = []
@@ -51,7 +51,7 @@ place_text place = decimal place.line ++ codes ":" ++ decimal place.column
 
 -- what it puts on the error output
 abbrev pub note_of : Answer → List ℕ
-note_of (Finishes output) = []
+note_of (Runs e) = e.note
 note_of Misuses = codes "hcjs: usage: hcjs FILE\n"
 note_of (Faults fault) =
     codes "hcjs: " ++ place_text fault.place ++ codes ": fault " ++ decimal (code_number fault.code) ++ codes " " ++ fault_name fault.code
@@ -68,11 +68,11 @@ pub record FilesChange : Type 0 where
 abbrev pub files_change : Option (List (List ℕ × List ℕ)) → ℕ → ℕ → FilesChange
 files_change held before after = record { held = held; before = before; after = after }
 
--- the answer to the bytes of a script: its first fault; or, of its tree, the first item that does not run yet, or what its lines print
+-- the answer to the bytes of a script: its first fault; or, of its tree, the least place of what does not run yet, or its expected output
 abbrev pub IsAnswer : List ℕ → Answer → Type 0
 IsAnswer bytes (Faults fault) = HasFirstFault bytes (Some fault)
 IsAnswer bytes (Unbuilt place) = (tree : Tree) × IsTreeOf bytes tree × (unbuilt tree ≡ Some place)
-IsAnswer bytes (Finishes output) = (tree : Tree) × IsTreeOf bytes tree × (unbuilt tree ≡ None) × (output ≡ printed (lines_of tree))
+IsAnswer bytes (Runs e) = (tree : Tree) × IsTreeOf bytes tree × (unbuilt tree ≡ None) × (e ≡ expected tree)
 IsAnswer bytes Misuses = ⊥
 IsAnswer bytes (CannotRead name) = ⊥
 
@@ -88,4 +88,4 @@ IsAsked words files Misuses = (file_of words ≡ None) × (files.after ≡ files
 IsAsked words files (CannotRead name) = (file_of words ≡ Some name) × Rises files.before files.after
 IsAsked words files (Faults fault) = IsAskedOfFile words files (Faults fault)
 IsAsked words files (Unbuilt place) = IsAskedOfFile words files (Unbuilt place)
-IsAsked words files (Finishes output) = IsAskedOfFile words files (Finishes output)
+IsAsked words files (Runs e) = IsAskedOfFile words files (Runs e)

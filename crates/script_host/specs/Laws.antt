@@ -1,14 +1,17 @@
 -- Laws of the answers to bytes and of what a call leaves, each named by a public function.
-use Rattle.std.specs.Prelude.{◌≡◌, ◌⊎◌, ℕ, List, Some, ⊤}
+use Rattle.std.specs.Prelude.{◌≡◌, ◌≤◌, ◌⊎◌, ℕ, List, Some, ⊤}
 use Rattle.es_source.specs.declared.faults.SourceFault.{SourceFault}
 use Rattle.es_tree.specs.Tree.{Tree}
+use Rattle.es_serve.specs.Run.{run_of}
 use Rattle.hc_outside.specs.Files.{bytes_named}
 use Rattle.script_checker.specs.Contract.{IsTreeOf}
 use Rattle.script_rules.specs.FirstFault.{HasFirstFault}
 use Rattle.script_host.specs.declared.status.Status.{Status}
 use Rattle.script_host.specs.declared.status.Status.TheVariants as status
-use Rattle.script_host.specs.Answers.{Answer, Finishes, note_of, file_of, FilesChange, IsAnswer}
-use Rattle.script_host.specs.Leaves.{SinkChange, IsRefusal, TookOutput, TookNote, Leaves}
+use Rattle.script_host.specs.Answers.{Answer, Runs, note_of, file_of, FilesChange, IsAnswer}
+use Rattle.script_host.specs.Leaves.{IsRefusal, TookOutput, TookNote, TookNoteOf, Leaves}
+use Rattle.script_host.specs.Sinks.{SinkChange}
+use Rattle.script_host.specs.Expected.{Expected}
 
 -- the bytes of a script have one answer
 abbrev pub HasOneAnswer : Type 0
@@ -29,13 +32,18 @@ HasReading bytes = ((f : SourceFault) × HasFault bytes f) ⊎ ((t : Tree) × Ha
 abbrev pub HasOneReading : Type 0
 HasOneReading = (bytes : List ℕ) → HasReading bytes
 
+-- a run of the whole file was expected to end with this status
+abbrev pub RunsRight : List ℕ → SinkChange → SinkChange → Status → Type 0
+RunsRight whole out err ended =
+    (e : Expected) × (e.status ≡ ended) × IsAnswer whole (Runs e) × TookOutput out (Runs e) × TookNoteOf err e.note
+
 -- what each of these statuses says of the whole file
 abbrev pub IsRightFor : List ℕ → SinkChange → SinkChange → Status → Type 0
-IsRightFor whole out err status.Finished = (output : List ℕ) × IsAnswer whole (Finishes output) × TookOutput out (Finishes output)
+IsRightFor whole out err status.Finished = RunsRight whole out err status.Finished
+IsRightFor whole out err status.Thrown = RunsRight whole out err status.Thrown
+IsRightFor whole out err status.BudgetEnded = RunsRight whole out err status.BudgetEnded
 IsRightFor whole out err status.Refused = (answer : Answer) × IsRefusal answer × IsAnswer whole answer × TookNote err (note_of answer)
 IsRightFor whole out err status.Usage = ⊥
-IsRightFor whole out err status.Thrown = ⊥
-IsRightFor whole out err status.BudgetEnded = ⊥
 IsRightFor whole out err status.ReadFault = ⊤
 IsRightFor whole out err status.WriteFault = ⊤
 IsRightFor whole out err status.NoMemory = ⊤
@@ -46,3 +54,7 @@ SpeaksOfWholeFile =
     (words : List (List ℕ)) (files : FilesChange) (out err : SinkChange) (ended : Status) (all : List (List ℕ × List ℕ)) (name whole : List ℕ)
     → Leaves words files out err ended → files.held ≡ Some all → file_of words ≡ Some name → bytes_named all name ≡ Some whole
     → IsRightFor whole out err ended
+
+-- a run takes at most its budget: no more turns are left at its end than there were
+abbrev pub KeepsToBudget : Type 0
+KeepsToBudget = (script : Tree) (turns : ℕ) → (run_of script turns).world.turns ≤ turns

@@ -2,20 +2,29 @@
 
 ghost use Rattle.std.specs.Prelude.{◌≡◌, ℕ, List, IfOk, OnOk, string_bytes};
 ghost use Rattle.property_keys.specs.Counts.{counted};
+ghost use Rattle.es_model.specs.World.{World};
 ghost use Rattle.hc_outside.specs.Causes.{HasCause};
 ghost use Rattle.hc_outside.specs.Sinks.{Writes};
+ghost use Rattle.object_heap.specs.Stands.{StandsFor};
 ghost use Rattle.script_host.specs.Answers.{note_of, CannotRead, Faults, Unbuilt};
-ghost use Rattle.script_host.specs.Leaves.{change, sink_view, TookFront, memory_note};
+ghost use Rattle.script_host.specs.Leaves.{memory_note};
+ghost use Rattle.script_host.specs.Sinks.{change, sink_view, TookFront};
 ghost use Rattle.script_host.specs.Settling.{EndsMade, EndsNoted};
+ghost use Rattle.script_host.specs.Uncaught.{uncaught_note};
 
 use crate::Status;
+use crate::texts::push;
+use crate::uncaught::push_uncaught;
 use es_source::{Place, SourceFault};
 use hc_outside::{Fault, Sink, Text};
-use property_keys::NoMemory;
+use object_heap::Heap;
+use property_keys::{Ledger, NoMemory, Steps, Value};
 use std::alloc::Global;
 use std::convert::AsStr;
 
 pub const USAGE: &[u8] = b"hcjs: usage: hcjs FILE\n";
+
+pub const BUDGET_ENDED: &[u8] = b"hcjs: budget ended\n";
 
 pub const CANNOT_WRITE: &[u8] = b"hcjs: cannot write\n";
 
@@ -45,7 +54,7 @@ pub fn faulty(alloc: Global, fault: SourceFault) -> Result<String, NoMemory>
     }
 }
 
-/// The note on an item that does not run yet.
+/// The note on what does not run yet.
 pub fn not_built(alloc: Global, place: Place) -> Result<String, NoMemory>
     ensures { IfOk result (λ note. string_bytes note ≡ note_of (Unbuilt place)) }
 {
@@ -54,6 +63,22 @@ pub fn not_built(alloc: Global, place: Place) -> Result<String, NoMemory>
         Ok(note) => Ok(note),
         Err(_) => Err(NoMemory),
     }
+}
+
+/// The note on a value that was not caught.
+pub fn uncaught<L: Ledger>(
+    alloc: Global,
+    heap: &Heap,
+    value: Value,
+    steps: &mut Steps<L>,
+) -> Result<Vec<u8>, NoMemory>
+    ensures { IfOk result (λ note. (w : World) → StandsFor heap.now w → note.items ≡ uncaught_note w.lists value) }
+{
+    let mut note = Vec::new(alloc);
+    push(&mut note, b"hcjs: uncaught ")?;
+    push_uncaught(alloc, &mut note, heap, value, steps)?;
+    push(&mut note, b"\n")?;
+    Ok(note)
 }
 
 /// Writes a note that was made, and ends with this status where the error output takes it.

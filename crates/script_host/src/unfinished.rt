@@ -1,81 +1,82 @@
 //! What of a checked script does not run yet.
 
-ghost use Rattle.std.specs.Prelude.{◌≡◌, ◌<◌, length, slice_get, Some};
-ghost use Rattle.script_host.specs.FirstItems.{earlier, fits, place_at, script_name, unbuilt, unfit_function, unfit_item};
-ghost use Rattle.script_host.specs.FirstTrees.{IsThere};
+ghost use Rattle.std.specs.Prelude.{◌≡◌, None, if◌then◌else◌};
+ghost use Rattle.script_host.specs.Unbuilt.{array_places, earlier, earliest, function_places, is_array, unbuilt};
 
-use crate::first_items::{item_of, items_of, line_at, script_name};
 use es_source::Place;
-use es_tree::{Checked, NodeId};
-use property_keys::Units;
+use es_tree::{Checked, FunctionNo, Node, NodeId, Primary};
 
-/// A script that runs has so many items at most.
-const MOST_ITEMS: usize = 500;
-
-/// Where the first item stands that does not run yet: its first token, and None exactly where all items run. The first item is `let N = {}`, each later one
-/// `N.K = W` or `print(N.K)`, and there are at most 500. It takes no memory.
+/// Where the first construct stands that does not run yet: the least place among the first token of each function, method and accessor and the `[` of each
+/// array literal, and None exactly where there is none of these. It takes no memory.
 pub fn unbuilt(script: &Checked) -> Option<Place>
     ensures { result ≡ unbuilt script.now }
 {
-    earlier(unfit_item(script), unfit_function(script))
+    first_function(script, first_array(script))
 }
 
-// The first statement that does not fit.
-fn unfit_item(script: &Checked) -> Option<Place>
-    ensures { result ≡ unfit_item script.now (script_name script.now) script.now.script.items }
+fn is_array(node: &Node) -> bool
+    ensures { result ≡ is_array node.now }
 {
-    match script_name(script) {
-        Some(name) => unfit_below(script, name),
-        None if items_of(script) == 0 => None,
-        None => Some(place_of(script, item_of(script, 0))),
+    match node {
+        Node::Primary(primary) => match primary {
+            Primary::Array(_) => true,
+            Primary::This
+            | Primary::Name(_)
+            | Primary::Number(_)
+            | Primary::Text(_)
+            | Primary::Null
+            | Primary::Bool(_)
+            | Primary::Object { .. }
+            | Primary::Function(_)
+            | Primary::Method(_) => false,
+        },
+        Node::Statement(_) | Node::Operator(_) | Node::Access(_) => false,
     }
 }
 
-// The first statement below the declaration that does not fit.
-fn unfit_below(script: &Checked, name: &Units) -> Option<Place>
-    ensures { result ≡ unfit_item script.now (Some name.now) script.now.script.items }
+// The least place of an array literal.
+fn first_array(script: &Checked) -> Option<Place>
+    ensures { result ≡ earliest None (array_places script.now.nodes script.now.places) }
 {
-    for i in 1..items_of(script) {
-        let item = item_of(script, i);
-        if !fits(script, name, i, item) {
-            return Some(place_of(script, item));
-        }
+    let mut found = None;
+    for n in 0..script.nodes() {
+        let place = script.place(NodeId(n));
+        found = with_array(found, script.node(NodeId(n)), place);
     }
-    None
+    found
 }
 
-fn fits(script: &Checked, name: &Units, i: usize, item: NodeId) -> bool
-    requires { IsThere script.now item }
-    ensures { result ≡ fits script.now name.now i item }
+// The earlier one of what was found and a node's place, where the node is an array literal.
+fn with_array(found: Option<Place>, node: &Node, place: Place) -> Option<Place>
+    ensures { result ≡ (if is_array node.now then earlier found place else found) }
 {
-    i < MOST_ITEMS && line_at(script, name, item).is_some()
-}
-
-fn place_of(script: &Checked, item: NodeId) -> Place
-    requires { IsThere script.now item }
-    ensures { result ≡ place_at script.now item }
-{
-    script.place(item)
-}
-
-// The first declared function: none fits.
-fn unfit_function(script: &Checked) -> Option<Place>
-    ensures { result ≡ unfit_function script.now script.now.script.declared }
-{
-    let declared = &script.script().declared;
-    if declared.len() == 0 {
-        return None;
+    if is_array(node) {
+        earlier(found, place)
+    } else {
+        found
     }
-    let facts = script.function(declared.at(0).function);
-    Some(facts.place)
 }
 
-fn earlier(one: Option<Place>, other: Option<Place>) -> Option<Place>
-    ensures { result ≡ earlier one other }
+// The least place of a function, a method or an accessor, or the one that was found before.
+fn first_function(script: &Checked, before: Option<Place>) -> Option<Place>
+    ensures { result ≡ earliest before (function_places script.now.functions) }
 {
-    match (one, other) {
-        (Some(p), Some(q)) => Some(if q.is_before(p) { q } else { p }),
-        (None, q) => q,
-        (p, None) => p,
+    let mut found = before;
+    for f in 0..script.functions() {
+        found = earlier(found, script.function(FunctionNo(f)).place);
+    }
+    found
+}
+
+fn earlier(found: Option<Place>, place: Place) -> Option<Place>
+    ensures { result ≡ earlier found place }
+{
+    match found {
+        None => Some(place),
+        Some(before) => Some(if place.is_before(before) {
+            place
+        } else {
+            before
+        }),
     }
 }

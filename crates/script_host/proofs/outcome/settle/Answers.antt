@@ -1,7 +1,7 @@
 use Rattle.std.proofs.Common.{refl, sym}
 use Rattle.std.proofs.lemmas.Result.{err_from_is_err_and}
 use Rattle.script_host.specs.Answers.{CannotRead, files_change}
-use Rattle.script_host.specs.Leaves.{change, sink_view}
+use Rattle.script_host.specs.Sinks.{change, sink_view}
 use Rattle.script_host.proofs.Settled.{flush_stops}
 use Rattle.script_host.proofs.outcome.settle.Goals as goal
 

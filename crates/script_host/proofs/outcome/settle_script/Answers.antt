@@ -1,9 +1,7 @@
 use Rattle.std.proofs.Common.{refl, sym}
 use Rattle.std.proofs.lemmas.Result.{err_from_is_err_and}
 use Rattle.script_host.specs.Answers.{Faults, Unbuilt}
-use Rattle.script_host.specs.FirstItems.{lines_of}
-use Rattle.script_host.specs.FirstOutput.{printed}
-use Rattle.script_host.specs.Leaves.{change, sink_view}
+use Rattle.script_host.specs.Sinks.{change, sink_view}
 use Rattle.script_host.proofs.Settled.{script_stops, run_stops}
 use Rattle.script_host.proofs.outcome.settle_script.Goals as goal
 
@@ -13,11 +11,11 @@ returns-in_err-flush-in-Some g c =
     rw (p.1, p.2) (script_stops c.args.bytes.now (change (sink_view (g.O.Sink.held c.args.out.now) (g.O.Sink.writes c.args.out.now) (g.O.Sink.flushes c.args.out.now) (g.O.Sink.faults c.args.out.now)) (sink_view (g.O.Sink.held c.flush.new.out) (g.O.Sink.writes c.flush.new.out) (g.O.Sink.flushes c.flush.new.out) (g.O.Sink.faults c.flush.new.out))) (Unbuilt c.in-Some.place) _
     (c.in-Ok.script, c.in-Ok.ensures, sym c.in-Some.ensures) refl c.in_err-flush-in-Some.ensures.bytes c.in_err-flush-in-Some.ensures.cause)
 
-pub returns-in_err-run_to_end-in-None : goal.returns-in_err-run_to_end-in-None
-returns-in_err-run_to_end-in-None g c =
-    let p = err_from_is_err_and c.from_residual-in_err-run_to_end-in-None.result c.from_residual-in_err-run_to_end-in-None.ensures.1 in
-    rw (p.1, p.2) (run_stops c.args.bytes.now (change (sink_view (g.O.Sink.held c.args.out.now) (g.O.Sink.writes c.args.out.now) (g.O.Sink.flushes c.args.out.now) (g.O.Sink.faults c.args.out.now)) (sink_view (g.O.Sink.held c.run_to_end.new.out) (g.O.Sink.writes c.run_to_end.new.out) (g.O.Sink.flushes c.run_to_end.new.out) (g.O.Sink.faults c.run_to_end.new.out))) (printed (lines_of c.in-Ok.script)) _
-    (c.in-Ok.script, c.in-Ok.ensures, sym c.in-None.ensures, refl) c.in_err-run_to_end-in-None.ensures)
+pub returns-in_err-ran-in-None : goal.returns-in_err-ran-in-None
+returns-in_err-ran-in-None g c =
+    let p = err_from_is_err_and c.from_residual-in_err-ran-in-None.result c.from_residual-in_err-ran-in-None.ensures.1 in
+    rw (p.1, p.2) (run_stops c.args.bytes.now (change (sink_view (g.O.Sink.held c.args.out.now) (g.O.Sink.writes c.args.out.now) (g.O.Sink.flushes c.args.out.now) (g.O.Sink.faults c.args.out.now)) (sink_view (g.O.Sink.held c.run_to_end.new.out) (g.O.Sink.writes c.run_to_end.new.out) (g.O.Sink.flushes c.run_to_end.new.out) (g.O.Sink.faults c.run_to_end.new.out))) c.in-Ok.script _
+    c.in-Ok.ensures (sym c.in-None.ensures) c.in_err-ran-in-None.ensures)
 
 pub returns-in_err-flush-in-Err-Fault : goal.returns-in_err-flush-in-Err-Fault
 returns-in_err-flush-in-Err-Fault g c =

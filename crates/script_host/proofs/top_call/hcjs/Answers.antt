@@ -1,7 +1,13 @@
 use Rattle.script_host.specs.Answers.{Faults, Unbuilt, CannotRead, files_change, note_of}
-use Rattle.script_host.specs.Leaves.{change, sink_view}
-use Rattle.script_host.proofs.Settled.{usage_ends, refused_ends, cannot_read_ends, write_fault_ends}
+use Rattle.script_host.specs.Sinks.{change, sink_view}
+use Rattle.script_host.proofs.Settled.{run_noted, usage_ends, refused_ends, cannot_read_ends, write_fault_ends}
 use Rattle.script_host.proofs.top_call.hcjs.Goals as goal
+
+pub returns-in-Ok-Script-Ran-clause-leaves : goal.returns-in-Ok-Script-Ran-clause-leaves
+returns-in-Ok-Script-Ran-clause-leaves g c =
+    let settled = rw (c.in-Ok-Script-Ran.field-0-is, c.in-Ok-Script-Ran.field-0-0-is) at c.in-Ok-Script-Ran.ensures.settles in
+    run_noted c.args.words.now (files_change (g.F.Files.held c.args.files.now) (g.F.Files.faults c.args.files.now) (g.F.Files.faults c.settle.new.files)) (change (sink_view (g.O.Sink.held c.args.out.now) (g.O.Sink.writes c.args.out.now) (g.O.Sink.flushes c.args.out.now) (g.O.Sink.faults c.args.out.now)) (sink_view (g.O.Sink.held c.settle.new.out) (g.O.Sink.writes c.settle.new.out) (g.O.Sink.flushes c.settle.new.out) (g.O.Sink.faults c.settle.new.out))) (change (sink_view (g.E.Sink.held c.args.err.now) (g.E.Sink.writes c.args.err.now) (g.E.Sink.flushes c.args.err.now) (g.E.Sink.faults c.args.err.now)) (sink_view (g.E.Sink.held c.ended_run.new.err) (g.E.Sink.writes c.ended_run.new.err) (g.E.Sink.flushes c.ended_run.new.err) (g.E.Sink.faults c.ended_run.new.err))) settled.0 c.in-Ok-Script-Ran.ran c.ended_run.result
+    settled.1 settled.2 c.ended_run.ensures
 
 pub returns-in-Ok-Script-Faulty-clause-leaves : goal.returns-in-Ok-Script-Faulty-clause-leaves
 returns-in-Ok-Script-Faulty-clause-leaves g c =

@@ -1,0 +1,10 @@
+//! Calls of the host and runs of scripts. Every expected value follows by hand from the steps of the standard and the rules of turns.
+
+mod budgets;
+mod endings;
+mod host;
+mod limits;
+mod memory;
+mod reading;
+mod scripts;
+mod uncaught;

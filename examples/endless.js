@@ -1,0 +1,3 @@
+let n = 0;
+print("counting");
+while (true) n++;

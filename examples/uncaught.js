@@ -1,0 +1,4 @@
+print("before");
+let o = { price: null };
+print(o.price.amount);
+print("after");
