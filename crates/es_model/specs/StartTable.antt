@@ -1,5 +1,5 @@
 -- The start objects (ECMA-262, 18 to 28) and their properties, in the order of their creation. A property whose value, getter or setter is a built-in function
--- that is no start object comes with that function.
+-- comes with that function: no property holds a constructor yet.
 use Rattle.std.specs.Prelude.{ℕ, pos, Bool, true, false, if◌then◌else◌, Option, Some, None, List, [], ◌∷◌}
 use Rattle.property_keys.specs.declared.keys.PropKey.{PropKey}
 use Rattle.property_keys.specs.declared.keys.PropKey.TheVariants.{Name, Sym}
@@ -112,14 +112,6 @@ object i = value.Object (object_of i)
 abbrev pub text_value : StartText → Value
 text_value t = value.Text (text_of t)
 
--- a constructor on the global object
-abbrev pub global_class : Class → OwnProperty
-global_class c = hidden (start_text.Class c) (object (intrinsic.Constructor c))
-
--- the constructor on its prototype object
-abbrev pub constructor : Class → OwnProperty
-constructor c = hidden start_text.Constructor (object (intrinsic.Constructor c))
-
 -- a well-known Symbol on the constructor of Symbols (20.4.2)
 abbrev pub well_known : WellKnown → OwnProperty
 well_known s = fixed (start_text.Symbol s) (value.Symbol (symbol_of s))
@@ -132,19 +124,6 @@ global_properties =
     hidden start_text.GlobalThis (object intrinsic.Global)
     ∷ fixed start_text.Undefined value.Undefined
     ∷ hidden start_text.Print (object intrinsic.Print)
-    ∷ global_class class.Object
-    ∷ global_class class.Function
-    ∷ global_class class.Array
-    ∷ global_class class.String
-    ∷ global_class class.Number
-    ∷ global_class class.Boolean
-    ∷ global_class class.Symbol
-    ∷ global_class (class.Error error.Error)
-    ∷ global_class (class.Error error.TypeError)
-    ∷ global_class (class.Error error.RangeError)
-    ∷ global_class (class.Error error.ReferenceError)
-    ∷ global_class (class.Error error.SyntaxError)
-    ∷ hidden start_text.Proxy (object intrinsic.Proxy)
     ∷ hidden start_text.Reflect (object intrinsic.Reflect)
     ∷ []
 
@@ -168,31 +147,18 @@ constructor_properties c =
     else constructor_with c 1 []
 
 abbrev pub prototype_properties : Class → List OwnProperty
-prototype_properties class.Object = constructor class.Object ∷ []
 prototype_properties class.Function =
     readonly start_text.Length (value.Whole (pos 0))
     ∷ readonly start_text.Name (text_value start_text.Empty)
-    ∷ constructor class.Function
     ∷ []
-prototype_properties class.Array =
-    stored true false (Name (text_of start_text.Length)) (value.Whole (pos 0))
-    ∷ constructor class.Array
-    ∷ []
-prototype_properties class.String =
-    fixed start_text.Length (value.Whole (pos 0))
-    ∷ constructor class.String
-    ∷ []
-prototype_properties class.Number = constructor class.Number ∷ []
-prototype_properties class.Boolean = constructor class.Boolean ∷ []
-prototype_properties class.Symbol =
-    constructor class.Symbol
-    ∷ tag (start_text.Class class.Symbol)
-    ∷ []
+prototype_properties class.Array = stored true false (Name (text_of start_text.Length)) (value.Whole (pos 0)) ∷ []
+prototype_properties class.String = fixed start_text.Length (value.Whole (pos 0)) ∷ []
+prototype_properties class.Symbol = tag (start_text.Class class.Symbol) ∷ []
 prototype_properties (class.Error e) =
-    constructor (class.Error e)
-    ∷ hidden start_text.Name (text_value (start_text.Class (class.Error e)))
+    hidden start_text.Name (text_value (start_text.Class (class.Error e)))
     ∷ hidden start_text.Message (text_value start_text.Empty)
     ∷ []
+prototype_properties other = []
 
 abbrev pub start_properties : Intrinsic → List OwnProperty
 start_properties intrinsic.Global = global_properties

@@ -4,10 +4,8 @@ ghost use Rattle.std.specs.Prelude.{◌≡◌, slice_get};
 ghost use Rattle.property_keys.specs.declared.keys.PropKey.TheVariants.{Name};
 ghost use Rattle.es_model.specs.StartTexts.{text_of};
 ghost use Rattle.es_model.specs.StartTable.{
-  constructor,
   constructor_properties,
   fixed,
-  global_class,
   global_properties,
   hidden,
   is_class_of_symbols,
@@ -21,7 +19,7 @@ ghost use Rattle.es_model.specs.StartTable.{
 };
 
 use crate::nth::nth;
-use crate::{Class, ErrorKind, Intrinsic, OwnProperty, StartText, WellKnown};
+use crate::{Class, Intrinsic, OwnProperty, StartText, WellKnown};
 use descriptors::Complete;
 use property_keys::{Attributes, PropKey, Value};
 
@@ -70,19 +68,6 @@ fn of_global(n: usize) -> Option<OwnProperty>
         ),
         fixed(StartText::Undefined, Value::Undefined),
         hidden(StartText::Print, Value::Object(Intrinsic::Print.object())),
-        global_class(Class::Object),
-        global_class(Class::Function),
-        global_class(Class::Array),
-        global_class(Class::String),
-        global_class(Class::Number),
-        global_class(Class::Boolean),
-        global_class(Class::Symbol),
-        global_class(Class::Error(ErrorKind::Error)),
-        global_class(Class::Error(ErrorKind::TypeError)),
-        global_class(Class::Error(ErrorKind::RangeError)),
-        global_class(Class::Error(ErrorKind::ReferenceError)),
-        global_class(Class::Error(ErrorKind::SyntaxError)),
-        hidden(StartText::Proxy, Value::Object(Intrinsic::Proxy.object())),
         hidden(
             StartText::Reflect,
             Value::Object(Intrinsic::Reflect.object()),
@@ -126,29 +111,23 @@ fn is_class_of_symbols(class: Class) -> bool
 fn of_prototype(class: Class, n: usize) -> Option<OwnProperty>
     ensures { result ≡ slice_get (prototype_properties class) n }
 {
-    let back = constructor(class);
     match class {
-        Class::Object | Class::Number | Class::Boolean => nth(&[back], n),
+        Class::Object | Class::Number | Class::Boolean => nth(&[], n),
         Class::Function => nth(
             &[
                 readonly(StartText::Length, Value::Whole(0)),
                 readonly(StartText::Name, text(StartText::Empty)),
-                back,
             ],
             n,
         ),
         Class::Array => nth(
-            &[
-                stored(true, false, name(StartText::Length), Value::Whole(0)),
-                back,
-            ],
+            &[stored(true, false, name(StartText::Length), Value::Whole(0))],
             n,
         ),
-        Class::String => nth(&[fixed(StartText::Length, Value::Whole(0)), back], n),
-        Class::Symbol => nth(&[back, tag(StartText::Class(class))], n),
+        Class::String => nth(&[fixed(StartText::Length, Value::Whole(0))], n),
+        Class::Symbol => nth(&[tag(StartText::Class(class))], n),
         Class::Error(_) => nth(
             &[
-                back,
                 hidden(StartText::Name, text(StartText::Class(class))),
                 hidden(StartText::Message, text(StartText::Empty)),
             ],
@@ -213,26 +192,6 @@ fn tag(it: StartText) -> OwnProperty
         true,
         PropKey::Sym(WellKnown::ToStringTag.symbol()),
         text(it),
-    )
-}
-
-/// A constructor on the global object.
-fn global_class(class: Class) -> OwnProperty
-    ensures { result ≡ global_class class }
-{
-    hidden(
-        StartText::Class(class),
-        Value::Object(Intrinsic::Constructor(class).object()),
-    )
-}
-
-/// The constructor on its prototype object.
-fn constructor(class: Class) -> OwnProperty
-    ensures { result ≡ constructor class }
-{
-    hidden(
-        StartText::Constructor,
-        Value::Object(Intrinsic::Constructor(class).object()),
     )
 }
 

@@ -1,6 +1,6 @@
 -- The world in which a run begins, as a table worked out by hand: each start object with its kind, its prototype and all of its properties in their order
 -- (ECMA-262, 18 to 28), each text and each Symbol. Texts are written out, a Symbol is its description, and an object its name. A property whose value, getter
--- or setter is a built-in function that is no start object is in no row, since it comes with that function.
+-- or setter is a built-in function is in no row until that function is built.
 use Rattle.std.specs.Prelude.{◌≡◌, ℕ, ℤ, pos, Bool, true, false, Option, Some, None, option_map, List, [], ◌∷◌, length, map, codes, slice_index_or}
 use Rattle.property_keys.specs.declared.identifiers.ObjectId.{ObjectId}
 use Rattle.property_keys.specs.declared.identifiers.TextId.{TextId}
@@ -34,7 +34,7 @@ pub data Seen : Type 0 where
 
 pub data SeenProperty : Type 0 where
   Has : (key held : Seen) → Attributes → SeenProperty
-  -- no start object has an accessor but with a function that is no start object
+  -- no start object has an accessor yet
   HasFunctions : Seen → SeenProperty
 
 pub data SeenKind : Type 0 where
@@ -146,9 +146,6 @@ abbrev pub constructor_row : ℕ → List ℕ → ℕ → List ℕ → List ℕ 
 constructor_row number up parameters name prototype rest =
     function_row number true up parameters name (fixed (codes "prototype") (thing prototype) ∷ rest)
 
-abbrev pub constructed_by : List ℕ → SeenProperty
-constructed_by name = hidden (codes "constructor") (thing name)
-
 -- ---- the global object (19)
 
 abbrev pub GlobalObject : Type 0
@@ -157,19 +154,6 @@ GlobalObject = seen (0 ∷ []) ≡
     hidden (codes "globalThis") (thing (codes "global"))
     ∷ fixed (codes "undefined") SeenUndefined
     ∷ hidden (codes "print") (thing (codes "print"))
-    ∷ hidden (codes "Object") (thing (codes "Object"))
-    ∷ hidden (codes "Function") (thing (codes "Function"))
-    ∷ hidden (codes "Array") (thing (codes "Array"))
-    ∷ hidden (codes "String") (thing (codes "String"))
-    ∷ hidden (codes "Number") (thing (codes "Number"))
-    ∷ hidden (codes "Boolean") (thing (codes "Boolean"))
-    ∷ hidden (codes "Symbol") (thing (codes "Symbol"))
-    ∷ hidden (codes "Error") (thing (codes "Error"))
-    ∷ hidden (codes "TypeError") (thing (codes "TypeError"))
-    ∷ hidden (codes "RangeError") (thing (codes "RangeError"))
-    ∷ hidden (codes "ReferenceError") (thing (codes "ReferenceError"))
-    ∷ hidden (codes "SyntaxError") (thing (codes "SyntaxError"))
-    ∷ hidden (codes "Proxy") (thing (codes "Proxy"))
     ∷ hidden (codes "Reflect") (thing (codes "Reflect"))
     ∷ []) ∷ []
 
@@ -179,14 +163,14 @@ GlobalObject = seen (0 ∷ []) ≡
 abbrev pub ObjectObjects : Type 0
 ObjectObjects = seen (1 ∷ 2 ∷ []) ≡
     constructor_row 1 (codes "Function.prototype") 1 (codes "Object") (codes "Object.prototype") []
-    ∷ record { kind = IsPlain; proto = None; extensible = true; properties = constructed_by (codes "Object") ∷ [] }
+    ∷ record { kind = IsPlain; proto = None; extensible = true; properties = [] }
     ∷ []
 
 -- 20.2: %Function.prototype% is a function itself, without a name, and constructs nothing
 abbrev pub FunctionObjects : Type 0
 FunctionObjects = seen (3 ∷ 4 ∷ []) ≡
     constructor_row 3 (codes "Function.prototype") 1 (codes "Function") (codes "Function.prototype") []
-    ∷ function_row 4 false (codes "Object.prototype") 0 [] (constructed_by (codes "Function") ∷ [])
+    ∷ function_row 4 false (codes "Object.prototype") 0 [] []
     ∷ []
 
 -- 23.1: %Array.prototype% is an Array, whose length is writable only
@@ -194,28 +178,28 @@ abbrev pub ArrayObjects : Type 0
 ArrayObjects = seen (5 ∷ 6 ∷ []) ≡
     constructor_row 5 (codes "Function.prototype") 1 (codes "Array") (codes "Array.prototype") []
     ∷ a_row IsList (codes "Object.prototype") (
-    Has (word (codes "length")) (count_of 0) (with_flags true false false) ∷ constructed_by (codes "Array") ∷ [])
+    Has (word (codes "length")) (count_of 0) (with_flags true false false) ∷ [])
     ∷ []
 
 -- 22.1: String's prototype is a String object of the empty text
 abbrev pub StringObjects : Type 0
 StringObjects = seen (7 ∷ 8 ∷ []) ≡
     constructor_row 7 (codes "Function.prototype") 1 (codes "String") (codes "String.prototype") []
-    ∷ a_row (HasUnits []) (codes "Object.prototype") (fixed (codes "length") (count_of 0) ∷ constructed_by (codes "String") ∷ [])
+    ∷ a_row (HasUnits []) (codes "Object.prototype") (fixed (codes "length") (count_of 0) ∷ [])
     ∷ []
 
 -- 21.1: Number's prototype is a Number object of 0
 abbrev pub NumberObjects : Type 0
 NumberObjects = seen (9 ∷ 10 ∷ []) ≡
     constructor_row 9 (codes "Function.prototype") 1 (codes "Number") (codes "Number.prototype") []
-    ∷ a_row (HasDatum (count_of 0)) (codes "Object.prototype") (constructed_by (codes "Number") ∷ [])
+    ∷ a_row (HasDatum (count_of 0)) (codes "Object.prototype") []
     ∷ []
 
 -- 20.3: Boolean's prototype is a Boolean object of false
 abbrev pub BooleanObjects : Type 0
 BooleanObjects = seen (11 ∷ 12 ∷ []) ≡
     constructor_row 11 (codes "Function.prototype") 1 (codes "Boolean") (codes "Boolean.prototype") []
-    ∷ a_row (HasDatum (SeenTruth false)) (codes "Object.prototype") (constructed_by (codes "Boolean") ∷ [])
+    ∷ a_row (HasDatum (SeenTruth false)) (codes "Object.prototype") []
     ∷ []
 
 -- 20.4: the constructor of Symbols takes none, and has the well-known ones; Symbol's prototype is no Symbol object
@@ -225,14 +209,14 @@ SymbolObjects = seen (13 ∷ 14 ∷ []) ≡
     fixed (codes "hasInstance") (SeenSymbol (codes "Symbol.hasInstance"))
     ∷ fixed (codes "toPrimitive") (SeenSymbol (codes "Symbol.toPrimitive"))
     ∷ fixed (codes "toStringTag") (SeenSymbol (codes "Symbol.toStringTag")) ∷ [])
-    ∷ a_row IsPlain (codes "Object.prototype") (constructed_by (codes "Symbol") ∷ tagged (codes "Symbol") ∷ [])
+    ∷ a_row IsPlain (codes "Object.prototype") (tagged (codes "Symbol") ∷ [])
     ∷ []
 
 -- ---- errors (20.5): an error's prototype is no error object, and has a name and an empty message
 
 abbrev pub error_prototype : List ℕ → List ℕ → Row
 error_prototype up name =
-    a_row IsPlain up (constructed_by name ∷ hidden (codes "name") (word name) ∷ hidden (codes "message") (word []) ∷ [])
+    a_row IsPlain up (hidden (codes "name") (word name) ∷ hidden (codes "message") (word []) ∷ [])
 
 abbrev pub ErrorObjects : Type 0
 ErrorObjects = seen (15 ∷ 16 ∷ []) ≡

@@ -114,11 +114,6 @@ static THROWN: &[Thrown] = &[
         out: "",
         note: "hcjs: uncaught a\u{FFFD}b \u{1F600}\n",
     },
-    Thrown {
-        file: "throw Symbol.toPrimitive;",
-        out: "",
-        note: "hcjs: uncaught Symbol(Symbol.toPrimitive)\n",
-    },
     // objects that are no errors
     Thrown {
         file: "throw {};",
@@ -170,16 +165,6 @@ static THROWN: &[Thrown] = &[
         file: "try { x; } catch (e) { e.name = 5; e.message = {}; throw e; }",
         out: "",
         note: "hcjs: uncaught \n",
-    },
-    Thrown {
-        file: "try { x; } catch (e) { ReferenceError.prototype.name = 'R'; throw e; }",
-        out: "",
-        note: "hcjs: uncaught R: x is not defined\n",
-    },
-    Thrown {
-        file: "try { x; } catch (e) { delete ReferenceError.prototype.name; throw e; }",
-        out: "",
-        note: "hcjs: uncaught Error: x is not defined\n",
     },
     Thrown {
         file: "try { x; } catch (e) { e.message = '\\uD800'; throw e; }",
