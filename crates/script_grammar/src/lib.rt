@@ -3,6 +3,7 @@
 
 mod act;
 pub mod examples;
+mod hashing;
 mod kinds;
 mod labels;
 pub mod laws;
@@ -13,6 +14,7 @@ mod sign;
 mod symbol;
 
 pub use act::Act;
+pub use hashing::NameHashing;
 pub use kinds::{Bracket, Kind, Level, Mark, NameRole, Word};
 pub use labels::{Atom, Pair, Quad, Triple, Wrap};
 pub use leaf::{Leaf, LeafKind};

@@ -3,7 +3,7 @@
 ghost use Rattle.std.specs.Prelude.{◌≡◌, ◌<◌, length, slice_get, Some};
 ghost use Rattle.script_grammar.specs.Scripts.{parts_of};
 
-use crate::{Leaf, ParseNode};
+use crate::{Leaf, NameHashing, ParseNode};
 use std::marker::Model;
 
 /// A script before its names are resolved: its nodes, its root, and one leaf for each token, by which the labels of the nodes name tokens.
@@ -12,6 +12,7 @@ pub struct Script {
     nodes: Vec<ParseNode>,
     leaves: Vec<Leaf>,
     root: u32,
+    hashing: NameHashing,
 }
 
 impl Model for Script {
@@ -27,10 +28,12 @@ impl Script {
     pub fn new(nodes: Vec<ParseNode>, leaves: Vec<Leaf>, root: u32) -> Script
         ensures { result ≡ parts_of nodes.items leaves.items root }
     {
+        let hashing = NameHashing::of(&leaves);
         Script {
             nodes,
             leaves,
             root,
+            hashing,
         }
     }
 
@@ -53,6 +56,11 @@ impl Script {
         ensures { result ≡ self.now.root }
     {
         self.root
+    }
+
+    /// How tables of its names are hashed.
+    pub fn hashing(&self) -> NameHashing {
+        self.hashing
     }
 
     /// The node with a known number.

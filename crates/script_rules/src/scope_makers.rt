@@ -64,7 +64,7 @@ pub fn script_scope(
 ) -> Result<Scope, NoMemory>
     ensures { IfOk result (λ s. s ≡ script_scope script.now.leaves declared.now) }
 {
-    let mut names = ScopeNames::new(alloc);
+    let mut names = ScopeNames::new(alloc, script.hashing());
     add_wanted(alloc, script, declared, Wanted::Lexical, &mut names)?;
     Ok(Scope {
         owner: Owner::Script,
@@ -93,7 +93,7 @@ pub fn function_scope(
 ) -> Result<Scope, NoMemory>
     ensures { IfOk result (λ s. s ≡ function_scope script.now.leaves (own_units script.now.leaves own_name) parameters.now declared.now) }
 {
-    let mut names = ScopeNames::new(alloc);
+    let mut names = ScopeNames::new(alloc, script.hashing());
     add_wanted(alloc, script, parameters, Wanted::All, &mut names)?;
     add_wanted(alloc, script, declared, Wanted::Functions, &mut names)?;
     add_wanted(alloc, script, declared, Wanted::Lexical, &mut names)?;
@@ -108,7 +108,7 @@ pub fn function_scope(
 pub fn part_scope(alloc: Global, script: &Script, declared: &[Declared]) -> Result<Scope, NoMemory>
     ensures { IfOk result (λ s. s ≡ part_scope script.now.leaves declared.now) }
 {
-    let mut names = ScopeNames::new(alloc);
+    let mut names = ScopeNames::new(alloc, script.hashing());
     add_wanted(alloc, script, declared, Wanted::All, &mut names)?;
     Ok(Scope {
         owner: Owner::Part,

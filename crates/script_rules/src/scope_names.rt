@@ -5,13 +5,14 @@ ghost use Rattle.script_rules.specs.Bounds.{bound, place_from, with_name};
 
 use indexmap::IndexMap;
 use property_keys::{NoMemory, Units};
+use script_grammar::NameHashing;
 use std::alloc::Global;
 use std::marker::Model;
 
 /// The names of a scope, each once, in the order in which their bindings are made. There is room for 2^32 - 1 names.
 #[derive(Drop)]
 pub struct ScopeNames {
-    table: IndexMap<Units, bool>,
+    table: IndexMap<Units, bool, NameHashing>,
 }
 
 impl Model for ScopeNames {
@@ -27,11 +28,11 @@ impl Model for ScopeNames {
 
 impl ScopeNames {
     /// No names. It takes no memory.
-    pub fn new(alloc: Global) -> ScopeNames
+    pub fn new(alloc: Global, hashing: NameHashing) -> ScopeNames
         ensures { result ≡ [] }
     {
         ScopeNames {
-            table: IndexMap::new(alloc),
+            table: IndexMap::with_hasher(alloc, hashing),
         }
     }
 

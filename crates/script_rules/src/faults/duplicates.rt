@@ -14,7 +14,7 @@ use crate::{Declared, Manner, members, own_units_at, part};
 use es_source::{FaultCode, SourceFault};
 use indexmap::IndexMap;
 use property_keys::{NoMemory, Units};
-use script_grammar::{Atom, Pair, ParseNode, Script};
+use script_grammar::{Atom, NameHashing, Pair, ParseNode, Script};
 use std::alloc::Global;
 
 /// Whether a name may not be declared in the later manner where it was declared in the earlier.
@@ -64,7 +64,10 @@ pub fn duplicates(
 ) -> Result<Option<SourceFault>, NoMemory>
     ensures { IfOk result (λ f. f ≡ least (duplicates script.now.leaves declared.now)) }
 {
-    let mut seen: IndexMap<Units, Manner> = IndexMap::new(alloc);
+    let mut seen: IndexMap<Units, Manner, NameHashing> = IndexMap::with_hasher(
+        alloc,
+        script.hashing(),
+    );
     let mut found = None;
     for d in declared {
         let units = own_units_at(alloc, script, d.name)?;
