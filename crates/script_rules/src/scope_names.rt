@@ -9,6 +9,9 @@ use script_grammar::NameHashing;
 use std::alloc::Global;
 use std::marker::Model;
 
+/// So few names are gone over, which is quicker than to hash the name that is looked for.
+const FEW: usize = 8;
+
 /// The names of a scope, each once, in the order in which their bindings are made. There is room for 2^32 - 1 names.
 #[derive(Drop)]
 pub struct ScopeNames {
@@ -64,9 +67,26 @@ impl ScopeNames {
     pub fn find(&self, units: &Units) -> Option<(u32, bool)>
         ensures { result ≡ place_from 0 self.now units.now }
     {
+        if self.table.len() <= FEW {
+            return self.find_in_turn(units);
+        }
         match self.table.get_full(units) {
             Some((place, _, constant)) => Some((place as u32, *constant)),
             None => None,
         }
+    }
+
+    /// The same, by going over the names.
+    fn find_in_turn(&self, units: &Units) -> Option<(u32, bool)>
+        ensures { result ≡ place_from 0 self.now units.now }
+    {
+        let mut place = 0;
+        'names: while let Some((name, constant)) = self.table.get_index(place) {
+            if units == name {
+                return Some((place as u32, *constant));
+            }
+            place += 1;
+        }
+        None
     }
 }
