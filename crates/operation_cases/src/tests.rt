@@ -1,5 +1,6 @@
 //! Steps with what is seen of them, worked out by hand from the steps of the standard.
 
+mod numbers;
 mod rows;
 mod seen;
 mod steps;

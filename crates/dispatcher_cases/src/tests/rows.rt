@@ -1,5 +1,4 @@
-//! Requests over the start objects, one after another. There are 29 start objects and 29 start texts: an error that is thrown first is object 29, and a text that is new
-//! first is text 29. Entering takes a turn, and print one for each argument.
+//! Requests over the start objects, one after another. Entering takes a turn, and print one for each argument.
 
 use property_keys::{ObjectId, PropKey, SymbolId, TextId, Value};
 
@@ -39,7 +38,15 @@ pub(crate) struct Row(
 
 const GLOBAL: Value = Value::Object(ObjectId(0));
 
-const PRINT: Value = Value::Object(ObjectId(28));
+/// The constructor %Object%.
+const OBJECT: ObjectId = ObjectId(1);
+
+const PRINT_FUNCTION: ObjectId = ObjectId(28);
+
+const PRINT: Value = Value::Object(PRINT_FUNCTION);
+
+/// What a request makes first: there are so many start objects.
+const FIRST_OBJECT: Value = Value::Object(ObjectId(29));
 
 const UNDEFINED: End = End::Value(Value::Undefined);
 
@@ -51,7 +58,7 @@ const NO_VALUE: Value = Value::Text(TextId(7));
 const A_KEY: PropKey = PropKey::Name(TextId(7));
 
 const TO_PRIMITIVE: PropKey = PropKey::Sym(SymbolId(1));
-/// The first new text, which is the hint `string`.
+/// The first new text, after the start texts: the hint `string`.
 const HINT: Value = Value::Text(TextId(29));
 
 /// print is the global object's method under @@toPrimitive: to convert it prints the hint, and gives undefined.
@@ -87,32 +94,32 @@ pub(crate) const ROWS: [Row; 16] = [
         0,
         &[Ask::Call(Value::Null, &[])],
         &[],
-        End::Throws(Value::Object(ObjectId(29))),
+        End::Throws(FIRST_OBJECT),
         0,
     ),
     Row(
         0,
         &[Ask::Call(GLOBAL, &[])],
         &[],
-        End::Throws(Value::Object(ObjectId(29))),
+        End::Throws(FIRST_OBJECT),
         0,
     ),
     Row(
         0,
-        &[Ask::Construct(ObjectId(28))],
+        &[Ask::Construct(PRINT_FUNCTION)],
         &[],
-        End::Throws(Value::Object(ObjectId(29))),
+        End::Throws(FIRST_OBJECT),
         0,
     ),
     // constructors are entered, and are not written yet
     Row(
         5,
-        &[Ask::Construct(ObjectId(1))],
+        &[Ask::Construct(OBJECT)],
         &[],
         End::Throws(Value::Undefined),
         4,
     ),
-    Row(0, &[Ask::Construct(ObjectId(1))], &[], End::Halts, 0),
+    Row(0, &[Ask::Construct(OBJECT)], &[], End::Halts, 0),
     // the global property `undefined` becomes no accessor; a getter is called
     Row(5, &[Ask::Getter(A_KEY, PRINT)], &[], End::Flag(false), 5),
     Row(

@@ -7,6 +7,9 @@ use object_heap::Heap;
 use property_keys::{Attributes, Counting, ObjectId, PropKey, Steps, Value};
 use std::test::Fail;
 
+/// What is made first: there are so many start objects.
+const FIRST_OBJECT: ObjectId = ObjectId(29);
+
 #[test]
 fn four_calls(rt: HostRuntime) -> Result<(), Fail> {
     let mut heap = Heap::new(rt.alloc(), 2)?;
@@ -17,11 +20,10 @@ fn four_calls(rt: HostRuntime) -> Result<(), Fail> {
         ..Descriptor::default()
     };
     let made = put(&mut heap, PropKey::Index(3), &wanted, &mut steps)?;
-    // the 29 start objects come first
     assert!(rt;
         matches!(
             made,
-            Turn::Done(Completion::Normal(Reply::Value(Value::Object(ObjectId(29)))))
+            Turn::Done(Completion::Normal(Reply::Value(Value::Object(FIRST_OBJECT))))
         )
     );
     let property = Complete::Stored {
@@ -33,15 +35,15 @@ fn four_calls(rt: HostRuntime) -> Result<(), Fail> {
         },
     };
     assert_eq!(rt;
-        heap.own(ObjectId(29), PropKey::Index(3), &mut steps),
+        heap.own(FIRST_OBJECT, PropKey::Index(3), &mut steps),
         Some(property)
     );
-    let stripped = strip(&mut heap, ObjectId(29), PropKey::Index(3), &mut steps)?;
+    let stripped = strip(&mut heap, FIRST_OBJECT, PropKey::Index(3), &mut steps)?;
     assert!(rt; matches!(stripped, Turn::Done(Completion::Normal(Reply::Flag(true)))));
-    assert_eq!(rt; heap.own(ObjectId(29), PropKey::Index(3), &mut steps), None);
-    assert!(rt; !heap.extensible(ObjectId(29)));
+    assert_eq!(rt; heap.own(FIRST_OBJECT, PropKey::Index(3), &mut steps), None);
+    assert!(rt; !heap.extensible(FIRST_OBJECT));
     // the two turns are taken
-    let halted = strip(&mut heap, ObjectId(29), PropKey::Index(3), &mut steps);
+    let halted = strip(&mut heap, FIRST_OBJECT, PropKey::Index(3), &mut steps);
     assert!(rt; matches!(halted, Err(Stop::Halted)));
     Ok(())
 }

@@ -1,5 +1,4 @@
-//! The steps of the tests, with what is to be seen of each. There are 29 start objects and 29 start texts: an error that is thrown first is object 29, and a text that is
-//! new first is text 29.
+//! The steps of the tests, with what is to be seen of each.
 
 mod calls;
 mod comparisons;
@@ -11,8 +10,11 @@ mod primitives;
 
 use super::seen::Seen;
 use super::steps::Step;
+use crate::tests::numbers::{
+    FIFTH_TEXT, FIRST_TEXT, FOURTH_TEXT, SECOND_TEXT, SEVENTH_TEXT, SIXTH_TEXT, THIRD_TEXT,
+};
 use descriptors::Complete;
-use property_keys::{Attributes, TextId, Value};
+use property_keys::{Attributes, Value};
 
 pub(crate) struct Row(pub(crate) Step, pub(crate) Seen);
 
@@ -25,38 +27,38 @@ const HIDDEN: Attributes = Attributes {
     configurable: true,
 };
 
-const MESSAGE_29: Complete = Complete::Stored {
-    value: Value::Text(TextId(29)),
+const FIRST_MESSAGE: Complete = Complete::Stored {
+    value: Value::Text(FIRST_TEXT),
     attributes: HIDDEN,
 };
 
-const MESSAGE_30: Complete = Complete::Stored {
-    value: Value::Text(TextId(30)),
+const SECOND_MESSAGE: Complete = Complete::Stored {
+    value: Value::Text(SECOND_TEXT),
     attributes: HIDDEN,
 };
 
-const MESSAGE_31: Complete = Complete::Stored {
-    value: Value::Text(TextId(31)),
+const THIRD_MESSAGE: Complete = Complete::Stored {
+    value: Value::Text(THIRD_TEXT),
     attributes: HIDDEN,
 };
 
-const MESSAGE_32: Complete = Complete::Stored {
-    value: Value::Text(TextId(32)),
+const FOURTH_MESSAGE: Complete = Complete::Stored {
+    value: Value::Text(FOURTH_TEXT),
     attributes: HIDDEN,
 };
 
-const MESSAGE_33: Complete = Complete::Stored {
-    value: Value::Text(TextId(33)),
+const FIFTH_MESSAGE: Complete = Complete::Stored {
+    value: Value::Text(FIFTH_TEXT),
     attributes: HIDDEN,
 };
 
-const MESSAGE_34: Complete = Complete::Stored {
-    value: Value::Text(TextId(34)),
+const SIXTH_MESSAGE: Complete = Complete::Stored {
+    value: Value::Text(SIXTH_TEXT),
     attributes: HIDDEN,
 };
 
-const MESSAGE_35: Complete = Complete::Stored {
-    value: Value::Text(TextId(35)),
+const SEVENTH_MESSAGE: Complete = Complete::Stored {
+    value: Value::Text(SEVENTH_TEXT),
     attributes: HIDDEN,
 };
 

@@ -1,6 +1,7 @@
 //! What a test does with a heap and the frame that waits.
 
 use super::seen::{Seen, seen_turn};
+use crate::tests::numbers::OBJECT_PROTOTYPE;
 use es_model::{Completion, Operation, Reply, Request, StartText, Stop, Turn, Values};
 use object_heap::Heap;
 use plain_builtins::{PlainFrame, resume, start};
@@ -127,7 +128,7 @@ fn request_of(alloc: Global, question: Question) -> Result<Request, NoMemory> {
         }
         Question::Construct(function) => construct(alloc, function),
         Question::Keys => Ok(Request::Keys {
-            object: ObjectId(2),
+            object: OBJECT_PROTOTYPE,
         }),
     }
 }

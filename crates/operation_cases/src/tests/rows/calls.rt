@@ -1,37 +1,37 @@
 //! The function that prints a line, and calls and constructions of what has no such method.
 
-use super::{FIVE, MESSAGE_29, MESSAGE_30, Row};
+use super::{FIRST_MESSAGE, FIVE, Row, SECOND_MESSAGE};
+use crate::tests::numbers::{
+    CONSTRUCTOR, EMPTY, FIRST_OBJECT, FIRST_TEXT, OBJECT_PROTOTYPE, PRINT_FUNCTION, SECOND_OBJECT,
+    SECOND_TEXT, THIRD_OBJECT,
+};
 use crate::tests::seen::{Few, Seen};
 use crate::tests::steps::{Given, Question, Step};
 use es_model::Operation;
-use property_keys::{ObjectId, TextId, Value};
+use property_keys::Value;
 
 /// The function that prints a line: its arguments from left to right, and then the line.
 pub(crate) static PRINT: [Row; 13] = [
     Row(
         Step::Start(Question::Call(
-            Value::Object(ObjectId(28)),
+            Value::Object(PRINT_FUNCTION),
             Value::Whole(1),
-            Value::Text(TextId(3)),
+            Value::Text(CONSTRUCTOR),
         )),
         Seen::AsksWork(Operation::ToText, Few(1, Some(Value::Whole(1)), None)),
     ),
     Row(Step::Left, Seen::Turns(9)),
     Row(
-        Step::Answer(Given::Value(Value::Text(TextId(5)))),
+        Step::Answer(Given::Value(Value::Text(EMPTY))),
         Seen::AsksWork(
             Operation::ToText,
-            Few(1, Some(Value::Text(TextId(3))), None),
+            Few(1, Some(Value::Text(CONSTRUCTOR)), None),
         ),
     ),
     Row(Step::Left, Seen::Turns(8)),
     Row(
-        Step::Answer(Given::Value(Value::Text(TextId(3)))),
-        Seen::AsksPrint(Few(
-            2,
-            Some(Value::Text(TextId(5))),
-            Some(Value::Text(TextId(3))),
-        )),
+        Step::Answer(Given::Value(Value::Text(CONSTRUCTOR))),
+        Seen::AsksPrint(Few(2, Some(Value::Text(EMPTY)), Some(Value::Text(CONSTRUCTOR)))),
     ),
     Row(
         Step::Answer(Given::Value(Value::Whole(1))),
@@ -39,35 +39,31 @@ pub(crate) static PRINT: [Row; 13] = [
     ),
     Row(
         Step::Start(Question::Call(
-            Value::Object(ObjectId(28)),
+            Value::Object(PRINT_FUNCTION),
             Value::Whole(1),
-            Value::Text(TextId(3)),
+            Value::Text(CONSTRUCTOR),
         )),
         Seen::AsksWork(Operation::ToText, Few(1, Some(Value::Whole(1)), None)),
     ),
     Row(Step::Answer(Given::Thrown(FIVE)), Seen::Thrown(FIVE)),
     Row(
         Step::Start(Question::Call(
-            Value::Object(ObjectId(28)),
+            Value::Object(PRINT_FUNCTION),
             Value::Whole(1),
-            Value::Text(TextId(3)),
+            Value::Text(CONSTRUCTOR),
         )),
         Seen::AsksWork(Operation::ToText, Few(1, Some(Value::Whole(1)), None)),
     ),
     Row(
-        Step::Answer(Given::Value(Value::Text(TextId(5)))),
+        Step::Answer(Given::Value(Value::Text(EMPTY))),
         Seen::AsksWork(
             Operation::ToText,
-            Few(1, Some(Value::Text(TextId(3))), None),
+            Few(1, Some(Value::Text(CONSTRUCTOR)), None),
         ),
     ),
     Row(
-        Step::Answer(Given::Value(Value::Text(TextId(3)))),
-        Seen::AsksPrint(Few(
-            2,
-            Some(Value::Text(TextId(5))),
-            Some(Value::Text(TextId(3))),
-        )),
+        Step::Answer(Given::Value(Value::Text(CONSTRUCTOR))),
+        Seen::AsksPrint(Few(2, Some(Value::Text(EMPTY)), Some(Value::Text(CONSTRUCTOR)))),
     ),
     Row(Step::Answer(Given::Thrown(FIVE)), Seen::Thrown(FIVE)),
     Row(Step::Left, Seen::Turns(5)),
@@ -77,39 +73,39 @@ pub(crate) static PRINT: [Row; 13] = [
 pub(crate) static CALLS: [Row; 12] = [
     Row(
         Step::Start(Question::Call(Value::Whole(1), Value::Undefined, Value::Undefined)),
-        Seen::Thrown(Value::Object(ObjectId(29))),
+        Seen::Thrown(Value::Object(FIRST_OBJECT)),
     ),
     Row(
         Step::Text("not a function"),
-        Seen::Value(Value::Text(TextId(29))),
+        Seen::Value(Value::Text(FIRST_TEXT)),
     ),
     Row(
-        Step::Message(ObjectId(29)),
-        Seen::Property(Some(MESSAGE_29)),
+        Step::Message(FIRST_OBJECT),
+        Seen::Property(Some(FIRST_MESSAGE)),
     ),
     Row(
         Step::Start(Question::Call(
-            Value::Object(ObjectId(2)),
+            Value::Object(OBJECT_PROTOTYPE),
             Value::Undefined,
             Value::Undefined,
         )),
-        Seen::Thrown(Value::Object(ObjectId(30))),
+        Seen::Thrown(Value::Object(SECOND_OBJECT)),
     ),
     Row(
-        Step::Message(ObjectId(30)),
-        Seen::Property(Some(MESSAGE_29)),
+        Step::Message(SECOND_OBJECT),
+        Seen::Property(Some(FIRST_MESSAGE)),
     ),
     Row(
-        Step::Start(Question::Construct(ObjectId(28))),
-        Seen::Thrown(Value::Object(ObjectId(31))),
+        Step::Start(Question::Construct(PRINT_FUNCTION)),
+        Seen::Thrown(Value::Object(THIRD_OBJECT)),
     ),
     Row(
         Step::Text("not a constructor"),
-        Seen::Value(Value::Text(TextId(30))),
+        Seen::Value(Value::Text(SECOND_TEXT)),
     ),
     Row(
-        Step::Message(ObjectId(31)),
-        Seen::Property(Some(MESSAGE_30)),
+        Step::Message(THIRD_OBJECT),
+        Seen::Property(Some(SECOND_MESSAGE)),
     ),
     Row(Step::Left, Seen::Turns(10)),
     Row(Step::Start(Question::Keys), Seen::Thrown(Value::Undefined)),

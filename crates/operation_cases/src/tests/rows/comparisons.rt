@@ -1,10 +1,14 @@
 //! IsLooselyEqual and IsLessThan (ECMA-262, 7.2.14, 7.2.13).
 
-use super::{FIVE, MESSAGE_30, MESSAGE_31, Row};
+use super::{FIVE, Row, SECOND_MESSAGE, THIRD_MESSAGE};
+use crate::tests::numbers::{
+    CONSTRUCTOR, EMPTY, FIRST_OBJECT, FIRST_TEXT, FUNCTION_PROTOTYPE, HAS_INSTANCE,
+    HAS_INSTANCE_DESCRIPTION, OBJECT_PROTOTYPE, SECOND_TEXT, THIRD_TEXT,
+};
 use crate::tests::seen::{Few, Seen};
 use crate::tests::steps::{Given, Question, Step};
 use es_model::Operation;
-use property_keys::{ObjectId, SymbolId, TextId, Value};
+use property_keys::Value;
 
 /// IsLooselyEqual (7.2.14).
 pub(crate) static EQUAL: [Row; 20] = [
@@ -16,11 +20,11 @@ pub(crate) static EQUAL: [Row; 20] = [
         Step::Start(Question::Two(Operation::LooselyEqual, Value::Null, Value::Whole(0))),
         Seen::Flag(false),
     ),
-    Row(Step::Text("1"), Seen::Value(Value::Text(TextId(29)))),
+    Row(Step::Text("1"), Seen::Value(Value::Text(FIRST_TEXT))),
     Row(
         Step::Start(Question::Two(
             Operation::LooselyEqual,
-            Value::Text(TextId(29)),
+            Value::Text(FIRST_TEXT),
             Value::Bool(true),
         )),
         Seen::Flag(true),
@@ -29,7 +33,7 @@ pub(crate) static EQUAL: [Row; 20] = [
         Step::Start(Question::Two(
             Operation::LooselyEqual,
             Value::Whole(2),
-            Value::Text(TextId(29)),
+            Value::Text(FIRST_TEXT),
         )),
         Seen::Flag(false),
     ),
@@ -37,30 +41,30 @@ pub(crate) static EQUAL: [Row; 20] = [
         Step::Start(Question::Two(
             Operation::LooselyEqual,
             Value::Whole(2),
-            Value::Text(TextId(3)),
+            Value::Text(CONSTRUCTOR),
         )),
-        Seen::Thrown(Value::Object(ObjectId(29))),
+        Seen::Thrown(Value::Object(FIRST_OBJECT)),
     ),
     Row(
         Step::Text("number outside the profile"),
-        Seen::Value(Value::Text(TextId(30))),
+        Seen::Value(Value::Text(SECOND_TEXT)),
     ),
     Row(
-        Step::Message(ObjectId(29)),
-        Seen::Property(Some(MESSAGE_30)),
+        Step::Message(FIRST_OBJECT),
+        Seen::Property(Some(SECOND_MESSAGE)),
     ),
     Row(
         Step::Start(Question::Two(
             Operation::LooselyEqual,
-            Value::Symbol(SymbolId(0)),
-            Value::Text(TextId(13)),
+            Value::Symbol(HAS_INSTANCE),
+            Value::Text(HAS_INSTANCE_DESCRIPTION),
         )),
         Seen::Flag(false),
     ),
     Row(
         Step::Start(Question::Two(
             Operation::LooselyEqual,
-            Value::Object(ObjectId(2)),
+            Value::Object(OBJECT_PROTOTYPE),
             Value::Null,
         )),
         Seen::Flag(false),
@@ -68,62 +72,62 @@ pub(crate) static EQUAL: [Row; 20] = [
     Row(
         Step::Start(Question::Two(
             Operation::LooselyEqual,
-            Value::Object(ObjectId(2)),
-            Value::Object(ObjectId(2)),
+            Value::Object(OBJECT_PROTOTYPE),
+            Value::Object(OBJECT_PROTOTYPE),
         )),
         Seen::Flag(true),
     ),
     Row(
         Step::Start(Question::Two(
             Operation::LooselyEqual,
-            Value::Object(ObjectId(2)),
-            Value::Text(TextId(3)),
+            Value::Object(OBJECT_PROTOTYPE),
+            Value::Text(CONSTRUCTOR),
         )),
         Seen::AsksWork(
             Operation::ToPrimitiveDefault,
-            Few(1, Some(Value::Object(ObjectId(2))), None),
+            Few(1, Some(Value::Object(OBJECT_PROTOTYPE)), None),
         ),
     ),
     Row(
-        Step::Answer(Given::Value(Value::Text(TextId(3)))),
+        Step::Answer(Given::Value(Value::Text(CONSTRUCTOR))),
         Seen::Flag(true),
     ),
     Row(
         Step::Start(Question::Two(
             Operation::LooselyEqual,
             Value::Bool(false),
-            Value::Object(ObjectId(2)),
+            Value::Object(OBJECT_PROTOTYPE),
         )),
         Seen::AsksWork(
             Operation::ToPrimitiveDefault,
-            Few(1, Some(Value::Object(ObjectId(2))), None),
+            Few(1, Some(Value::Object(OBJECT_PROTOTYPE)), None),
         ),
     ),
     Row(
-        Step::Answer(Given::Value(Value::Text(TextId(5)))),
+        Step::Answer(Given::Value(Value::Text(EMPTY))),
         Seen::Flag(true),
     ),
     Row(
         Step::Start(Question::Two(
             Operation::LooselyEqual,
-            Value::Object(ObjectId(2)),
-            Value::Text(TextId(3)),
+            Value::Object(OBJECT_PROTOTYPE),
+            Value::Text(CONSTRUCTOR),
         )),
         Seen::AsksWork(
             Operation::ToPrimitiveDefault,
-            Few(1, Some(Value::Object(ObjectId(2))), None),
+            Few(1, Some(Value::Object(OBJECT_PROTOTYPE)), None),
         ),
     ),
     Row(Step::Answer(Given::Thrown(FIVE)), Seen::Thrown(FIVE)),
     Row(
         Step::Start(Question::Two(
             Operation::LooselyEqual,
-            Value::Text(TextId(3)),
-            Value::Object(ObjectId(2)),
+            Value::Text(CONSTRUCTOR),
+            Value::Object(OBJECT_PROTOTYPE),
         )),
         Seen::AsksWork(
             Operation::ToPrimitiveDefault,
-            Few(1, Some(Value::Object(ObjectId(2))), None),
+            Few(1, Some(Value::Object(OBJECT_PROTOTYPE)), None),
         ),
     ),
     Row(Step::Answer(Given::Thrown(FIVE)), Seen::Thrown(FIVE)),
@@ -133,17 +137,21 @@ pub(crate) static EQUAL: [Row; 20] = [
 /// IsLessThan (7.2.13), with both orders of conversion.
 pub(crate) static LESS: [Row; 21] = [
     Row(
-        Step::Start(Question::Less(Value::Object(ObjectId(2)), Value::Object(ObjectId(4)), true)),
+        Step::Start(Question::Less(
+            Value::Object(OBJECT_PROTOTYPE),
+            Value::Object(FUNCTION_PROTOTYPE),
+            true,
+        )),
         Seen::AsksWork(
             Operation::ToPrimitiveNumber,
-            Few(1, Some(Value::Object(ObjectId(2))), None),
+            Few(1, Some(Value::Object(OBJECT_PROTOTYPE)), None),
         ),
     ),
     Row(
         Step::Answer(Given::Value(Value::Whole(1))),
         Seen::AsksWork(
             Operation::ToPrimitiveNumber,
-            Few(1, Some(Value::Object(ObjectId(4))), None),
+            Few(1, Some(Value::Object(FUNCTION_PROTOTYPE)), None),
         ),
     ),
     Row(
@@ -152,20 +160,20 @@ pub(crate) static LESS: [Row; 21] = [
     ),
     Row(
         Step::Start(Question::Less(
-            Value::Object(ObjectId(2)),
-            Value::Object(ObjectId(4)),
+            Value::Object(OBJECT_PROTOTYPE),
+            Value::Object(FUNCTION_PROTOTYPE),
             false,
         )),
         Seen::AsksWork(
             Operation::ToPrimitiveNumber,
-            Few(1, Some(Value::Object(ObjectId(4))), None),
+            Few(1, Some(Value::Object(FUNCTION_PROTOTYPE)), None),
         ),
     ),
     Row(
         Step::Answer(Given::Value(Value::Whole(1))),
         Seen::AsksWork(
             Operation::ToPrimitiveNumber,
-            Few(1, Some(Value::Object(ObjectId(2))), None),
+            Few(1, Some(Value::Object(OBJECT_PROTOTYPE)), None),
         ),
     ),
     Row(
@@ -173,10 +181,10 @@ pub(crate) static LESS: [Row; 21] = [
         Seen::Flag(false),
     ),
     Row(
-        Step::Start(Question::Less(Value::Object(ObjectId(2)), Value::Whole(5), true)),
+        Step::Start(Question::Less(Value::Object(OBJECT_PROTOTYPE), Value::Whole(5), true)),
         Seen::AsksWork(
             Operation::ToPrimitiveNumber,
-            Few(1, Some(Value::Object(ObjectId(2))), None),
+            Few(1, Some(Value::Object(OBJECT_PROTOTYPE)), None),
         ),
     ),
     Row(
@@ -184,100 +192,108 @@ pub(crate) static LESS: [Row; 21] = [
         Seen::Flag(true),
     ),
     Row(
-        Step::Start(Question::Less(Value::Whole(5), Value::Object(ObjectId(4)), true)),
+        Step::Start(Question::Less(Value::Whole(5), Value::Object(FUNCTION_PROTOTYPE), true)),
         Seen::AsksWork(
             Operation::ToPrimitiveNumber,
-            Few(1, Some(Value::Object(ObjectId(4))), None),
+            Few(1, Some(Value::Object(FUNCTION_PROTOTYPE)), None),
         ),
     ),
     Row(
         Step::Answer(Given::Value(Value::Whole(1))),
         Seen::Flag(false),
     ),
-    Row(Step::Text("ab"), Seen::Value(Value::Text(TextId(29)))),
-    Row(Step::Text("ac"), Seen::Value(Value::Text(TextId(30)))),
+    Row(Step::Text("ab"), Seen::Value(Value::Text(FIRST_TEXT))),
+    Row(Step::Text("ac"), Seen::Value(Value::Text(SECOND_TEXT))),
     Row(
-        Step::Start(Question::Less(Value::Text(TextId(29)), Value::Text(TextId(30)), true)),
+        Step::Start(Question::Less(Value::Text(FIRST_TEXT), Value::Text(SECOND_TEXT), true)),
         Seen::Flag(true),
     ),
     Row(Step::Left, Seen::Turns(8)),
     Row(
-        Step::Start(Question::Less(Value::Text(TextId(29)), Value::Text(TextId(29)), true)),
+        Step::Start(Question::Less(Value::Text(FIRST_TEXT), Value::Text(FIRST_TEXT), true)),
         Seen::Flag(false),
     ),
     Row(Step::Left, Seen::Turns(6)),
     Row(
-        Step::Start(Question::Less(Value::Text(TextId(5)), Value::Text(TextId(29)), true)),
+        Step::Start(Question::Less(Value::Text(EMPTY), Value::Text(FIRST_TEXT), true)),
         Seen::Flag(true),
     ),
     Row(Step::Left, Seen::Turns(6)),
     Row(
-        Step::Start(Question::Less(Value::Symbol(SymbolId(0)), Value::Undefined, false)),
-        Seen::Thrown(Value::Object(ObjectId(29))),
+        Step::Start(Question::Less(Value::Symbol(HAS_INSTANCE), Value::Undefined, false)),
+        Seen::Thrown(Value::Object(FIRST_OBJECT)),
     ),
     Row(
         Step::Text("cannot convert"),
-        Seen::Value(Value::Text(TextId(31))),
+        Seen::Value(Value::Text(THIRD_TEXT)),
     ),
     Row(
-        Step::Message(ObjectId(29)),
-        Seen::Property(Some(MESSAGE_31)),
+        Step::Message(FIRST_OBJECT),
+        Seen::Property(Some(THIRD_MESSAGE)),
     ),
 ];
 
 /// What is thrown at each point of IsLessThan is thrown on.
 pub(crate) static LESS_THROWS: [Row; 10] = [
     Row(
-        Step::Start(Question::Less(Value::Object(ObjectId(2)), Value::Object(ObjectId(4)), true)),
+        Step::Start(Question::Less(
+            Value::Object(OBJECT_PROTOTYPE),
+            Value::Object(FUNCTION_PROTOTYPE),
+            true,
+        )),
         Seen::AsksWork(
             Operation::ToPrimitiveNumber,
-            Few(1, Some(Value::Object(ObjectId(2))), None),
+            Few(1, Some(Value::Object(OBJECT_PROTOTYPE)), None),
         ),
     ),
     Row(Step::Answer(Given::Thrown(FIVE)), Seen::Thrown(FIVE)),
     Row(
-        Step::Start(Question::Less(Value::Object(ObjectId(2)), Value::Object(ObjectId(4)), true)),
+        Step::Start(Question::Less(
+            Value::Object(OBJECT_PROTOTYPE),
+            Value::Object(FUNCTION_PROTOTYPE),
+            true,
+        )),
         Seen::AsksWork(
             Operation::ToPrimitiveNumber,
-            Few(1, Some(Value::Object(ObjectId(2))), None),
+            Few(1, Some(Value::Object(OBJECT_PROTOTYPE)), None),
         ),
     ),
     Row(
         Step::Answer(Given::Value(Value::Whole(1))),
         Seen::AsksWork(
             Operation::ToPrimitiveNumber,
-            Few(1, Some(Value::Object(ObjectId(4))), None),
+            Few(1, Some(Value::Object(FUNCTION_PROTOTYPE)), None),
         ),
     ),
     Row(Step::Answer(Given::Thrown(FIVE)), Seen::Thrown(FIVE)),
     Row(
         Step::Start(Question::Less(
-            Value::Object(ObjectId(2)),
-            Value::Object(ObjectId(4)),
+            Value::Object(OBJECT_PROTOTYPE),
+            Value::Object(FUNCTION_PROTOTYPE),
             false,
         )),
         Seen::AsksWork(
             Operation::ToPrimitiveNumber,
-            Few(1, Some(Value::Object(ObjectId(4))), None),
+            Few(1, Some(Value::Object(FUNCTION_PROTOTYPE)), None),
         ),
     ),
     Row(Step::Answer(Given::Thrown(FIVE)), Seen::Thrown(FIVE)),
     Row(
         Step::Start(Question::Less(
-            Value::Object(ObjectId(2)),
-            Value::Object(ObjectId(4)),
+            Value::Object(OBJECT_PROTOTYPE),
+            Value::Object(FUNCTION_PROTOTYPE),
             false,
         )),
         Seen::AsksWork(
             Operation::ToPrimitiveNumber,
-            Few(1, Some(Value::Object(ObjectId(4))), None),
+            Few(1, Some(Value::Object(FUNCTION_PROTOTYPE)), None),
         ),
     ),
     Row(
         Step::Answer(Given::Value(Value::Whole(1))),
         Seen::AsksWork(
             Operation::ToPrimitiveNumber,
-            Few(1, Some(Value::Object(ObjectId(2))), None),
+            Few(1, Some(Value::Object(OBJECT_PROTOTYPE)), None),
         ),
     ),
     Row(Step::Answer(Given::Thrown(FIVE)), Seen::Thrown(FIVE)),

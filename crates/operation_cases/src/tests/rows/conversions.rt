@@ -1,64 +1,68 @@
 //! ToString, ToNumber and ToPropertyKey (ECMA-262, 7.1.17, 7.1.4, 7.1.19).
 
-use super::{FIVE, MESSAGE_31, MESSAGE_32, Row};
+use super::{FIVE, FOURTH_MESSAGE, Row, THIRD_MESSAGE};
+use crate::tests::numbers::{
+    CONSTRUCTOR, EMPTY, FIRST_OBJECT, FIRST_TEXT, FOURTH_TEXT, HAS_INSTANCE, OBJECT_PROTOTYPE,
+    SECOND_OBJECT, SECOND_TEXT, THIRD_OBJECT, THIRD_TEXT, TO_STRING_TAG, UNDEFINED,
+};
 use crate::tests::seen::{Few, Seen};
 use crate::tests::steps::{Given, Question, Step};
 use es_model::Operation;
-use property_keys::{ObjectId, PropKey, SymbolId, TextId, Value};
+use property_keys::{PropKey, Value};
 
 /// ToString (7.1.17).
 pub(crate) static TEXTS: [Row; 16] = [
     Row(
-        Step::Start(Question::One(Operation::ToText, Value::Text(TextId(3)))),
-        Seen::Value(Value::Text(TextId(3))),
+        Step::Start(Question::One(Operation::ToText, Value::Text(CONSTRUCTOR))),
+        Seen::Value(Value::Text(CONSTRUCTOR)),
     ),
     Row(
         Step::Start(Question::One(Operation::ToText, Value::Undefined)),
-        Seen::Value(Value::Text(TextId(7))),
+        Seen::Value(Value::Text(UNDEFINED)),
     ),
     Row(
         Step::Start(Question::One(Operation::ToText, Value::Null)),
-        Seen::Value(Value::Text(TextId(29))),
+        Seen::Value(Value::Text(FIRST_TEXT)),
     ),
-    Row(Step::Text("null"), Seen::Value(Value::Text(TextId(29)))),
+    Row(Step::Text("null"), Seen::Value(Value::Text(FIRST_TEXT))),
     Row(
         Step::Start(Question::One(Operation::ToText, Value::Bool(false))),
-        Seen::Value(Value::Text(TextId(30))),
+        Seen::Value(Value::Text(SECOND_TEXT)),
     ),
-    Row(Step::Text("false"), Seen::Value(Value::Text(TextId(30)))),
+    Row(Step::Text("false"), Seen::Value(Value::Text(SECOND_TEXT))),
     Row(
         Step::Start(Question::One(Operation::ToText, Value::Whole(-20))),
-        Seen::Value(Value::Text(TextId(31))),
+        Seen::Value(Value::Text(THIRD_TEXT)),
     ),
-    Row(Step::Text("-20"), Seen::Value(Value::Text(TextId(31)))),
+    Row(Step::Text("-20"), Seen::Value(Value::Text(THIRD_TEXT))),
     Row(
-        Step::Start(Question::One(Operation::ToText, Value::Symbol(SymbolId(0)))),
-        Seen::Thrown(Value::Object(ObjectId(29))),
+        Step::Start(Question::One(Operation::ToText, Value::Symbol(HAS_INSTANCE))),
+        Seen::Thrown(Value::Object(FIRST_OBJECT)),
     ),
     Row(
         Step::Text("cannot convert"),
-        Seen::Value(Value::Text(TextId(32))),
+        Seen::Value(Value::Text(FOURTH_TEXT)),
     ),
     Row(
-        Step::Message(ObjectId(29)),
-        Seen::Property(Some(MESSAGE_32)),
+        Step::Message(FIRST_OBJECT),
+        Seen::Property(Some(FOURTH_MESSAGE)),
     ),
     Row(
-        Step::Start(Question::One(Operation::ToText, Value::Object(ObjectId(2)))),
+        Step::Start(Question::One(Operation::ToText, Value::Object(OBJECT_PROTOTYPE))),
         Seen::AsksWork(
             Operation::ToPrimitiveText,
-            Few(1, Some(Value::Object(ObjectId(2))), None),
+            Few(1, Some(Value::Object(OBJECT_PROTOTYPE)), None),
         ),
     ),
     Row(
         Step::Answer(Given::Value(Value::Null)),
-        Seen::Value(Value::Text(TextId(29))),
+        Seen::Value(Value::Text(FIRST_TEXT)),
     ),
     Row(
-        Step::Start(Question::One(Operation::ToText, Value::Object(ObjectId(2)))),
+        Step::Start(Question::One(Operation::ToText, Value::Object(OBJECT_PROTOTYPE))),
         Seen::AsksWork(
             Operation::ToPrimitiveText,
-            Few(1, Some(Value::Object(ObjectId(2))), None),
+            Few(1, Some(Value::Object(OBJECT_PROTOTYPE)), None),
         ),
     ),
     Row(Step::Answer(Given::Thrown(FIVE)), Seen::Thrown(FIVE)),
@@ -72,46 +76,46 @@ pub(crate) static NUMBERS: [Row; 19] = [
         Seen::Value(Value::Whole(3)),
     ),
     Row(
-        Step::Start(Question::One(Operation::ToWhole, Value::Text(TextId(5)))),
+        Step::Start(Question::One(Operation::ToWhole, Value::Text(EMPTY))),
         Seen::Value(Value::Whole(0)),
     ),
-    Row(Step::Text("0x1F"), Seen::Value(Value::Text(TextId(29)))),
+    Row(Step::Text("0x1F"), Seen::Value(Value::Text(FIRST_TEXT))),
     Row(
-        Step::Start(Question::One(Operation::ToWhole, Value::Text(TextId(29)))),
+        Step::Start(Question::One(Operation::ToWhole, Value::Text(FIRST_TEXT))),
         Seen::Value(Value::Whole(31)),
     ),
-    Row(Step::Text("+0x1F"), Seen::Value(Value::Text(TextId(30)))),
+    Row(Step::Text("+0x1F"), Seen::Value(Value::Text(SECOND_TEXT))),
     Row(
-        Step::Start(Question::One(Operation::ToWhole, Value::Text(TextId(30)))),
-        Seen::Thrown(Value::Object(ObjectId(29))),
+        Step::Start(Question::One(Operation::ToWhole, Value::Text(SECOND_TEXT))),
+        Seen::Thrown(Value::Object(FIRST_OBJECT)),
     ),
     Row(
         Step::Text("number outside the profile"),
-        Seen::Value(Value::Text(TextId(31))),
+        Seen::Value(Value::Text(THIRD_TEXT)),
     ),
     Row(
-        Step::Message(ObjectId(29)),
-        Seen::Property(Some(MESSAGE_31)),
+        Step::Message(FIRST_OBJECT),
+        Seen::Property(Some(THIRD_MESSAGE)),
     ),
     Row(
         Step::Start(Question::One(Operation::ToWhole, Value::Undefined)),
-        Seen::Thrown(Value::Object(ObjectId(30))),
+        Seen::Thrown(Value::Object(SECOND_OBJECT)),
     ),
     Row(
-        Step::Message(ObjectId(30)),
-        Seen::Property(Some(MESSAGE_31)),
+        Step::Message(SECOND_OBJECT),
+        Seen::Property(Some(THIRD_MESSAGE)),
     ),
     Row(
-        Step::Start(Question::One(Operation::ToWhole, Value::Symbol(SymbolId(0)))),
-        Seen::Thrown(Value::Object(ObjectId(31))),
+        Step::Start(Question::One(Operation::ToWhole, Value::Symbol(HAS_INSTANCE))),
+        Seen::Thrown(Value::Object(THIRD_OBJECT)),
     ),
     Row(
         Step::Text("cannot convert"),
-        Seen::Value(Value::Text(TextId(32))),
+        Seen::Value(Value::Text(FOURTH_TEXT)),
     ),
     Row(
-        Step::Message(ObjectId(31)),
-        Seen::Property(Some(MESSAGE_32)),
+        Step::Message(THIRD_OBJECT),
+        Seen::Property(Some(FOURTH_MESSAGE)),
     ),
     Row(
         Step::Start(Question::One(Operation::ToWhole, Value::Bool(true))),
@@ -122,10 +126,10 @@ pub(crate) static NUMBERS: [Row; 19] = [
         Seen::Value(Value::Whole(0)),
     ),
     Row(
-        Step::Start(Question::One(Operation::ToWhole, Value::Object(ObjectId(2)))),
+        Step::Start(Question::One(Operation::ToWhole, Value::Object(OBJECT_PROTOTYPE))),
         Seen::AsksWork(
             Operation::ToPrimitiveNumber,
-            Few(1, Some(Value::Object(ObjectId(2))), None),
+            Few(1, Some(Value::Object(OBJECT_PROTOTYPE)), None),
         ),
     ),
     Row(
@@ -133,10 +137,10 @@ pub(crate) static NUMBERS: [Row; 19] = [
         Seen::Value(Value::Whole(0)),
     ),
     Row(
-        Step::Start(Question::One(Operation::ToWhole, Value::Object(ObjectId(2)))),
+        Step::Start(Question::One(Operation::ToWhole, Value::Object(OBJECT_PROTOTYPE))),
         Seen::AsksWork(
             Operation::ToPrimitiveNumber,
-            Few(1, Some(Value::Object(ObjectId(2))), None),
+            Few(1, Some(Value::Object(OBJECT_PROTOTYPE)), None),
         ),
     ),
     Row(Step::Answer(Given::Thrown(FIVE)), Seen::Thrown(FIVE)),
@@ -145,8 +149,8 @@ pub(crate) static NUMBERS: [Row; 19] = [
 /// ToPropertyKey (7.1.19).
 pub(crate) static KEYS: [Row; 14] = [
     Row(
-        Step::Start(Question::One(Operation::ToKey, Value::Text(TextId(3)))),
-        Seen::Key(PropKey::Name(TextId(3))),
+        Step::Start(Question::One(Operation::ToKey, Value::Text(CONSTRUCTOR))),
+        Seen::Key(PropKey::Name(CONSTRUCTOR)),
     ),
     Row(
         Step::Start(Question::One(Operation::ToKey, Value::Whole(4294967294))),
@@ -154,35 +158,35 @@ pub(crate) static KEYS: [Row; 14] = [
     ),
     Row(
         Step::Start(Question::One(Operation::ToKey, Value::Whole(4294967295))),
-        Seen::Key(PropKey::Name(TextId(29))),
+        Seen::Key(PropKey::Name(FIRST_TEXT)),
     ),
     Row(
         Step::Text("4294967295"),
-        Seen::Value(Value::Text(TextId(29))),
+        Seen::Value(Value::Text(FIRST_TEXT)),
     ),
-    Row(Step::Text("17"), Seen::Value(Value::Text(TextId(30)))),
+    Row(Step::Text("17"), Seen::Value(Value::Text(SECOND_TEXT))),
     Row(
-        Step::Start(Question::One(Operation::ToKey, Value::Text(TextId(30)))),
+        Step::Start(Question::One(Operation::ToKey, Value::Text(SECOND_TEXT))),
         Seen::Key(PropKey::Index(17)),
     ),
     Row(
-        Step::Start(Question::One(Operation::ToKey, Value::Symbol(SymbolId(2)))),
-        Seen::Key(PropKey::Sym(SymbolId(2))),
+        Step::Start(Question::One(Operation::ToKey, Value::Symbol(TO_STRING_TAG))),
+        Seen::Key(PropKey::Sym(TO_STRING_TAG)),
     ),
     Row(
         Step::Start(Question::One(Operation::ToKey, Value::Null)),
-        Seen::Key(PropKey::Name(TextId(31))),
+        Seen::Key(PropKey::Name(THIRD_TEXT)),
     ),
     Row(
         Step::Start(Question::One(Operation::ToKey, Value::Whole(-1))),
-        Seen::Key(PropKey::Name(TextId(32))),
+        Seen::Key(PropKey::Name(FOURTH_TEXT)),
     ),
-    Row(Step::Text("-1"), Seen::Value(Value::Text(TextId(32)))),
+    Row(Step::Text("-1"), Seen::Value(Value::Text(FOURTH_TEXT))),
     Row(
-        Step::Start(Question::One(Operation::ToKey, Value::Object(ObjectId(2)))),
+        Step::Start(Question::One(Operation::ToKey, Value::Object(OBJECT_PROTOTYPE))),
         Seen::AsksWork(
             Operation::ToPrimitiveText,
-            Few(1, Some(Value::Object(ObjectId(2))), None),
+            Few(1, Some(Value::Object(OBJECT_PROTOTYPE)), None),
         ),
     ),
     Row(
@@ -190,10 +194,10 @@ pub(crate) static KEYS: [Row; 14] = [
         Seen::Key(PropKey::Index(0)),
     ),
     Row(
-        Step::Start(Question::One(Operation::ToKey, Value::Object(ObjectId(2)))),
+        Step::Start(Question::One(Operation::ToKey, Value::Object(OBJECT_PROTOTYPE))),
         Seen::AsksWork(
             Operation::ToPrimitiveText,
-            Few(1, Some(Value::Object(ObjectId(2))), None),
+            Few(1, Some(Value::Object(OBJECT_PROTOTYPE)), None),
         ),
     ),
     Row(Step::Answer(Given::Thrown(FIVE)), Seen::Thrown(FIVE)),

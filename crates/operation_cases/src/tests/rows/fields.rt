@@ -1,53 +1,57 @@
 //! ToPropertyDescriptor (ECMA-262, 6.2.6.5).
 
-use super::{FIVE, MESSAGE_34, MESSAGE_35, Row};
+use super::{FIVE, Row, SEVENTH_MESSAGE, SIXTH_MESSAGE};
+use crate::tests::numbers::{
+    FIFTH_TEXT, FIRST_OBJECT, FIRST_TEXT, FOURTH_TEXT, OBJECT, OBJECT_PROTOTYPE, SECOND_OBJECT,
+    SECOND_TEXT, SEVENTH_TEXT, SIXTH_TEXT, THIRD_TEXT,
+};
 use crate::tests::seen::Seen;
 use crate::tests::steps::{Given, Question, Step};
 use descriptors::Descriptor;
 use es_model::Operation;
-use property_keys::{ObjectId, PropKey, TextId, Value};
+use property_keys::{PropKey, Value};
 
 /// ToPropertyDescriptor (6.2.6.5): HasProperty and then Get of each field, in their order.
 pub(crate) static DESCRIPTOR: [Row; 18] = [
     Row(
-        Step::Start(Question::One(Operation::ToWanted, Value::Object(ObjectId(2)))),
-        Seen::AsksHas(ObjectId(2), PropKey::Name(TextId(29))),
+        Step::Start(Question::One(Operation::ToWanted, Value::Object(OBJECT_PROTOTYPE))),
+        Seen::AsksHas(OBJECT_PROTOTYPE, PropKey::Name(FIRST_TEXT)),
     ),
     Row(
         Step::Answer(Given::Flag(true)),
-        Seen::AsksRead(ObjectId(2), PropKey::Name(TextId(29))),
+        Seen::AsksRead(OBJECT_PROTOTYPE, PropKey::Name(FIRST_TEXT)),
     ),
     Row(
         Step::Answer(Given::Value(Value::Whole(1))),
-        Seen::AsksHas(ObjectId(2), PropKey::Name(TextId(30))),
+        Seen::AsksHas(OBJECT_PROTOTYPE, PropKey::Name(SECOND_TEXT)),
     ),
     Row(
         Step::Answer(Given::Flag(true)),
-        Seen::AsksRead(ObjectId(2), PropKey::Name(TextId(30))),
+        Seen::AsksRead(OBJECT_PROTOTYPE, PropKey::Name(SECOND_TEXT)),
     ),
     Row(
         Step::Answer(Given::Value(Value::Whole(0))),
-        Seen::AsksHas(ObjectId(2), PropKey::Name(TextId(31))),
+        Seen::AsksHas(OBJECT_PROTOTYPE, PropKey::Name(THIRD_TEXT)),
     ),
     Row(
         Step::Answer(Given::Flag(true)),
-        Seen::AsksRead(ObjectId(2), PropKey::Name(TextId(31))),
+        Seen::AsksRead(OBJECT_PROTOTYPE, PropKey::Name(THIRD_TEXT)),
     ),
     Row(
         Step::Answer(Given::Value(Value::Whole(7))),
-        Seen::AsksHas(ObjectId(2), PropKey::Name(TextId(32))),
+        Seen::AsksHas(OBJECT_PROTOTYPE, PropKey::Name(FOURTH_TEXT)),
     ),
     Row(
         Step::Answer(Given::Flag(true)),
-        Seen::AsksRead(ObjectId(2), PropKey::Name(TextId(32))),
+        Seen::AsksRead(OBJECT_PROTOTYPE, PropKey::Name(FOURTH_TEXT)),
     ),
     Row(
         Step::Answer(Given::Value(Value::Bool(true))),
-        Seen::AsksHas(ObjectId(2), PropKey::Name(TextId(33))),
+        Seen::AsksHas(OBJECT_PROTOTYPE, PropKey::Name(FIFTH_TEXT)),
     ),
     Row(
         Step::Answer(Given::Flag(false)),
-        Seen::AsksHas(ObjectId(2), PropKey::Name(TextId(34))),
+        Seen::AsksHas(OBJECT_PROTOTYPE, PropKey::Name(SIXTH_TEXT)),
     ),
     Row(
         Step::Answer(Given::Flag(false)),
@@ -62,59 +66,62 @@ pub(crate) static DESCRIPTOR: [Row; 18] = [
     ),
     Row(
         Step::Text("enumerable"),
-        Seen::Value(Value::Text(TextId(29))),
+        Seen::Value(Value::Text(FIRST_TEXT)),
     ),
     Row(
         Step::Text("configurable"),
-        Seen::Value(Value::Text(TextId(30))),
+        Seen::Value(Value::Text(SECOND_TEXT)),
     ),
-    Row(Step::Text("value"), Seen::Value(Value::Text(TextId(31)))),
-    Row(Step::Text("writable"), Seen::Value(Value::Text(TextId(32)))),
-    Row(Step::Text("get"), Seen::Value(Value::Text(TextId(33)))),
-    Row(Step::Text("set"), Seen::Value(Value::Text(TextId(34)))),
+    Row(Step::Text("value"), Seen::Value(Value::Text(THIRD_TEXT))),
+    Row(
+        Step::Text("writable"),
+        Seen::Value(Value::Text(FOURTH_TEXT)),
+    ),
+    Row(Step::Text("get"), Seen::Value(Value::Text(FIFTH_TEXT))),
+    Row(Step::Text("set"), Seen::Value(Value::Text(SIXTH_TEXT))),
     Row(Step::Left, Seen::Turns(10)),
 ];
 
 /// A getter and a setter.
 pub(crate) static ACCESSOR: [Row; 9] = [
     Row(
-        Step::Start(Question::One(Operation::ToWanted, Value::Object(ObjectId(2)))),
-        Seen::AsksHas(ObjectId(2), PropKey::Name(TextId(29))),
+        Step::Start(Question::One(Operation::ToWanted, Value::Object(OBJECT_PROTOTYPE))),
+        Seen::AsksHas(OBJECT_PROTOTYPE, PropKey::Name(FIRST_TEXT)),
     ),
     Row(
         Step::Answer(Given::Flag(false)),
-        Seen::AsksHas(ObjectId(2), PropKey::Name(TextId(30))),
+        Seen::AsksHas(OBJECT_PROTOTYPE, PropKey::Name(SECOND_TEXT)),
     ),
     Row(
         Step::Answer(Given::Flag(false)),
-        Seen::AsksHas(ObjectId(2), PropKey::Name(TextId(31))),
+        Seen::AsksHas(OBJECT_PROTOTYPE, PropKey::Name(THIRD_TEXT)),
     ),
     Row(
         Step::Answer(Given::Flag(false)),
-        Seen::AsksHas(ObjectId(2), PropKey::Name(TextId(32))),
+        Seen::AsksHas(OBJECT_PROTOTYPE, PropKey::Name(FOURTH_TEXT)),
     ),
     Row(
         Step::Answer(Given::Flag(false)),
-        Seen::AsksHas(ObjectId(2), PropKey::Name(TextId(33))),
+        Seen::AsksHas(OBJECT_PROTOTYPE, PropKey::Name(FIFTH_TEXT)),
     ),
     Row(
         Step::Answer(Given::Flag(true)),
-        Seen::AsksRead(ObjectId(2), PropKey::Name(TextId(33))),
+        Seen::AsksRead(OBJECT_PROTOTYPE, PropKey::Name(FIFTH_TEXT)),
     ),
     Row(
-        Step::Answer(Given::Value(Value::Object(ObjectId(1)))),
-        Seen::AsksHas(ObjectId(2), PropKey::Name(TextId(34))),
+        Step::Answer(Given::Value(Value::Object(OBJECT))),
+        Seen::AsksHas(OBJECT_PROTOTYPE, PropKey::Name(SIXTH_TEXT)),
     ),
     Row(
         Step::Answer(Given::Flag(true)),
-        Seen::AsksRead(ObjectId(2), PropKey::Name(TextId(34))),
+        Seen::AsksRead(OBJECT_PROTOTYPE, PropKey::Name(SIXTH_TEXT)),
     ),
     Row(
         Step::Answer(Given::Value(Value::Undefined)),
         Seen::Wanted(Descriptor {
             value: None,
             writable: None,
-            get: Some(Value::Object(ObjectId(1))),
+            get: Some(Value::Object(OBJECT)),
             set: Some(Value::Undefined),
             enumerable: None,
             configurable: None,
@@ -125,105 +132,105 @@ pub(crate) static ACCESSOR: [Row; 9] = [
 /// A descriptor of both kinds.
 pub(crate) static MIXED: [Row; 11] = [
     Row(
-        Step::Start(Question::One(Operation::ToWanted, Value::Object(ObjectId(2)))),
-        Seen::AsksHas(ObjectId(2), PropKey::Name(TextId(29))),
+        Step::Start(Question::One(Operation::ToWanted, Value::Object(OBJECT_PROTOTYPE))),
+        Seen::AsksHas(OBJECT_PROTOTYPE, PropKey::Name(FIRST_TEXT)),
     ),
     Row(
         Step::Answer(Given::Flag(false)),
-        Seen::AsksHas(ObjectId(2), PropKey::Name(TextId(30))),
+        Seen::AsksHas(OBJECT_PROTOTYPE, PropKey::Name(SECOND_TEXT)),
     ),
     Row(
         Step::Answer(Given::Flag(false)),
-        Seen::AsksHas(ObjectId(2), PropKey::Name(TextId(31))),
+        Seen::AsksHas(OBJECT_PROTOTYPE, PropKey::Name(THIRD_TEXT)),
     ),
     Row(
         Step::Answer(Given::Flag(true)),
-        Seen::AsksRead(ObjectId(2), PropKey::Name(TextId(31))),
+        Seen::AsksRead(OBJECT_PROTOTYPE, PropKey::Name(THIRD_TEXT)),
     ),
     Row(
         Step::Answer(Given::Value(Value::Whole(7))),
-        Seen::AsksHas(ObjectId(2), PropKey::Name(TextId(32))),
+        Seen::AsksHas(OBJECT_PROTOTYPE, PropKey::Name(FOURTH_TEXT)),
     ),
     Row(
         Step::Answer(Given::Flag(false)),
-        Seen::AsksHas(ObjectId(2), PropKey::Name(TextId(33))),
+        Seen::AsksHas(OBJECT_PROTOTYPE, PropKey::Name(FIFTH_TEXT)),
     ),
     Row(
         Step::Answer(Given::Flag(true)),
-        Seen::AsksRead(ObjectId(2), PropKey::Name(TextId(33))),
+        Seen::AsksRead(OBJECT_PROTOTYPE, PropKey::Name(FIFTH_TEXT)),
     ),
     Row(
-        Step::Answer(Given::Value(Value::Object(ObjectId(1)))),
-        Seen::AsksHas(ObjectId(2), PropKey::Name(TextId(34))),
+        Step::Answer(Given::Value(Value::Object(OBJECT))),
+        Seen::AsksHas(OBJECT_PROTOTYPE, PropKey::Name(SIXTH_TEXT)),
     ),
     Row(
         Step::Answer(Given::Flag(false)),
-        Seen::Thrown(Value::Object(ObjectId(29))),
+        Seen::Thrown(Value::Object(FIRST_OBJECT)),
     ),
     Row(
         Step::Text("bad descriptor"),
-        Seen::Value(Value::Text(TextId(35))),
+        Seen::Value(Value::Text(SEVENTH_TEXT)),
     ),
     Row(
-        Step::Message(ObjectId(29)),
-        Seen::Property(Some(MESSAGE_35)),
+        Step::Message(FIRST_OBJECT),
+        Seen::Property(Some(SEVENTH_MESSAGE)),
     ),
 ];
 
 /// A getter that cannot be called, and what is thrown at each point.
 pub(crate) static NO_GETTER: [Row; 15] = [
     Row(
-        Step::Start(Question::One(Operation::ToWanted, Value::Object(ObjectId(2)))),
-        Seen::AsksHas(ObjectId(2), PropKey::Name(TextId(29))),
+        Step::Start(Question::One(Operation::ToWanted, Value::Object(OBJECT_PROTOTYPE))),
+        Seen::AsksHas(OBJECT_PROTOTYPE, PropKey::Name(FIRST_TEXT)),
     ),
     Row(Step::Answer(Given::Thrown(FIVE)), Seen::Thrown(FIVE)),
     Row(
-        Step::Start(Question::One(Operation::ToWanted, Value::Object(ObjectId(2)))),
-        Seen::AsksHas(ObjectId(2), PropKey::Name(TextId(29))),
+        Step::Start(Question::One(Operation::ToWanted, Value::Object(OBJECT_PROTOTYPE))),
+        Seen::AsksHas(OBJECT_PROTOTYPE, PropKey::Name(FIRST_TEXT)),
     ),
     Row(
         Step::Answer(Given::Flag(true)),
-        Seen::AsksRead(ObjectId(2), PropKey::Name(TextId(29))),
+        Seen::AsksRead(OBJECT_PROTOTYPE, PropKey::Name(FIRST_TEXT)),
     ),
     Row(Step::Answer(Given::Thrown(FIVE)), Seen::Thrown(FIVE)),
     Row(
-        Step::Start(Question::One(Operation::ToWanted, Value::Object(ObjectId(2)))),
-        Seen::AsksHas(ObjectId(2), PropKey::Name(TextId(29))),
+        Step::Start(Question::One(Operation::ToWanted, Value::Object(OBJECT_PROTOTYPE))),
+        Seen::AsksHas(OBJECT_PROTOTYPE, PropKey::Name(FIRST_TEXT)),
     ),
     Row(
         Step::Answer(Given::Flag(false)),
-        Seen::AsksHas(ObjectId(2), PropKey::Name(TextId(30))),
+        Seen::AsksHas(OBJECT_PROTOTYPE, PropKey::Name(SECOND_TEXT)),
     ),
     Row(
         Step::Answer(Given::Flag(false)),
-        Seen::AsksHas(ObjectId(2), PropKey::Name(TextId(31))),
+        Seen::AsksHas(OBJECT_PROTOTYPE, PropKey::Name(THIRD_TEXT)),
     ),
     Row(
         Step::Answer(Given::Flag(false)),
-        Seen::AsksHas(ObjectId(2), PropKey::Name(TextId(32))),
+        Seen::AsksHas(OBJECT_PROTOTYPE, PropKey::Name(FOURTH_TEXT)),
     ),
     Row(
         Step::Answer(Given::Flag(false)),
-        Seen::AsksHas(ObjectId(2), PropKey::Name(TextId(33))),
+        Seen::AsksHas(OBJECT_PROTOTYPE, PropKey::Name(FIFTH_TEXT)),
     ),
     Row(
         Step::Answer(Given::Flag(true)),
-        Seen::AsksRead(ObjectId(2), PropKey::Name(TextId(33))),
+        Seen::AsksRead(OBJECT_PROTOTYPE, PropKey::Name(FIFTH_TEXT)),
     ),
     Row(
-        Step::Answer(Given::Value(Value::Object(ObjectId(2)))),
-        Seen::Thrown(Value::Object(ObjectId(29))),
+        Step::Answer(Given::Value(Value::Object(OBJECT_PROTOTYPE))),
+        Seen::Thrown(Value::Object(FIRST_OBJECT)),
     ),
     Row(
         Step::Text("not a function"),
-        Seen::Value(Value::Text(TextId(34))),
+        Seen::Value(Value::Text(SIXTH_TEXT)),
     ),
     Row(
-        Step::Message(ObjectId(29)),
-        Seen::Property(Some(MESSAGE_34)),
+        Step::Message(FIRST_OBJECT),
+        Seen::Property(Some(SIXTH_MESSAGE)),
     ),
     Row(
         Step::Start(Question::One(Operation::ToWanted, Value::Whole(1))),
-        Seen::Thrown(Value::Object(ObjectId(30))),
+        Seen::Thrown(Value::Object(SECOND_OBJECT)),
     ),
 ];

@@ -1,71 +1,75 @@
 //! InstanceofOperator and OrdinaryHasInstance (ECMA-262, 13.10.2, 7.3.21).
 
-use super::{FIVE, MESSAGE_29, MESSAGE_30, Row};
+use super::{FIRST_MESSAGE, FIVE, Row, SECOND_MESSAGE};
+use crate::tests::numbers::{
+    ARRAY_PROTOTYPE, FIRST_OBJECT, FIRST_TEXT, FUNCTION, FUNCTION_PROTOTYPE, HAS_INSTANCE, OBJECT,
+    OBJECT_PROTOTYPE, PROTOTYPE, SECOND_OBJECT, SECOND_TEXT, THIRD_OBJECT,
+};
 use crate::tests::seen::{Few, Seen};
 use crate::tests::steps::{Given, Question, Step};
 use es_model::Operation;
-use property_keys::{ObjectId, PropKey, SymbolId, TextId, Value};
+use property_keys::{PropKey, Value};
 
 /// InstanceofOperator (13.10.2) and OrdinaryHasInstance (7.3.21).
 pub(crate) static INSTANCE: [Row; 28] = [
     Row(
         Step::Start(Question::Two(
             Operation::InstanceOf,
-            Value::Object(ObjectId(6)),
-            Value::Object(ObjectId(1)),
+            Value::Object(ARRAY_PROTOTYPE),
+            Value::Object(OBJECT),
         )),
-        Seen::AsksRead(ObjectId(1), PropKey::Sym(SymbolId(0))),
+        Seen::AsksRead(OBJECT, PropKey::Sym(HAS_INSTANCE)),
     ),
     Row(
         Step::Answer(Given::Value(Value::Undefined)),
-        Seen::AsksRead(ObjectId(1), PropKey::Name(TextId(2))),
+        Seen::AsksRead(OBJECT, PropKey::Name(PROTOTYPE)),
     ),
     Row(
-        Step::Answer(Given::Value(Value::Object(ObjectId(2)))),
-        Seen::AsksProto(ObjectId(6)),
+        Step::Answer(Given::Value(Value::Object(OBJECT_PROTOTYPE))),
+        Seen::AsksProto(ARRAY_PROTOTYPE),
     ),
     Row(Step::Left, Seen::Turns(9)),
     Row(
-        Step::Answer(Given::Proto(Some(ObjectId(4)))),
-        Seen::AsksProto(ObjectId(4)),
+        Step::Answer(Given::Proto(Some(FUNCTION_PROTOTYPE))),
+        Seen::AsksProto(FUNCTION_PROTOTYPE),
     ),
     Row(
-        Step::Answer(Given::Proto(Some(ObjectId(2)))),
+        Step::Answer(Given::Proto(Some(OBJECT_PROTOTYPE))),
         Seen::Flag(true),
     ),
     Row(Step::Left, Seen::Turns(8)),
     Row(
         Step::Start(Question::Two(
             Operation::InstanceOf,
-            Value::Object(ObjectId(6)),
-            Value::Object(ObjectId(1)),
+            Value::Object(ARRAY_PROTOTYPE),
+            Value::Object(OBJECT),
         )),
-        Seen::AsksRead(ObjectId(1), PropKey::Sym(SymbolId(0))),
+        Seen::AsksRead(OBJECT, PropKey::Sym(HAS_INSTANCE)),
     ),
     Row(
         Step::Answer(Given::Value(Value::Undefined)),
-        Seen::AsksRead(ObjectId(1), PropKey::Name(TextId(2))),
+        Seen::AsksRead(OBJECT, PropKey::Name(PROTOTYPE)),
     ),
     Row(
-        Step::Answer(Given::Value(Value::Object(ObjectId(2)))),
-        Seen::AsksProto(ObjectId(6)),
+        Step::Answer(Given::Value(Value::Object(OBJECT_PROTOTYPE))),
+        Seen::AsksProto(ARRAY_PROTOTYPE),
     ),
     Row(Step::Answer(Given::Proto(None)), Seen::Flag(false)),
     Row(Step::Left, Seen::Turns(7)),
     Row(
         Step::Start(Question::Two(
             Operation::InstanceOf,
-            Value::Object(ObjectId(6)),
-            Value::Object(ObjectId(1)),
+            Value::Object(ARRAY_PROTOTYPE),
+            Value::Object(OBJECT),
         )),
-        Seen::AsksRead(ObjectId(1), PropKey::Sym(SymbolId(0))),
+        Seen::AsksRead(OBJECT, PropKey::Sym(HAS_INSTANCE)),
     ),
     Row(
-        Step::Answer(Given::Value(Value::Object(ObjectId(3)))),
+        Step::Answer(Given::Value(Value::Object(FUNCTION))),
         Seen::AsksCall(
-            Value::Object(ObjectId(3)),
-            Value::Object(ObjectId(1)),
-            Few(1, Some(Value::Object(ObjectId(6))), None),
+            Value::Object(FUNCTION),
+            Value::Object(OBJECT),
+            Few(1, Some(Value::Object(ARRAY_PROTOTYPE)), None),
         ),
     ),
     Row(
@@ -76,66 +80,66 @@ pub(crate) static INSTANCE: [Row; 28] = [
         Step::Start(Question::Two(
             Operation::InstanceOf,
             Value::Whole(1),
-            Value::Object(ObjectId(1)),
+            Value::Object(OBJECT),
         )),
-        Seen::AsksRead(ObjectId(1), PropKey::Sym(SymbolId(0))),
+        Seen::AsksRead(OBJECT, PropKey::Sym(HAS_INSTANCE)),
     ),
     Row(Step::Answer(Given::Value(Value::Null)), Seen::Flag(false)),
     Row(
         Step::Start(Question::Two(
             Operation::InstanceOf,
-            Value::Object(ObjectId(6)),
+            Value::Object(ARRAY_PROTOTYPE),
             Value::Whole(1),
         )),
-        Seen::Thrown(Value::Object(ObjectId(29))),
+        Seen::Thrown(Value::Object(FIRST_OBJECT)),
     ),
     Row(
         Step::Text("not an object"),
-        Seen::Value(Value::Text(TextId(29))),
+        Seen::Value(Value::Text(FIRST_TEXT)),
     ),
     Row(
-        Step::Message(ObjectId(29)),
-        Seen::Property(Some(MESSAGE_29)),
+        Step::Message(FIRST_OBJECT),
+        Seen::Property(Some(FIRST_MESSAGE)),
     ),
     Row(
         Step::Start(Question::Two(
             Operation::InstanceOf,
-            Value::Object(ObjectId(6)),
-            Value::Object(ObjectId(2)),
+            Value::Object(ARRAY_PROTOTYPE),
+            Value::Object(OBJECT_PROTOTYPE),
         )),
-        Seen::AsksRead(ObjectId(2), PropKey::Sym(SymbolId(0))),
+        Seen::AsksRead(OBJECT_PROTOTYPE, PropKey::Sym(HAS_INSTANCE)),
     ),
     Row(
         Step::Answer(Given::Value(Value::Undefined)),
-        Seen::Thrown(Value::Object(ObjectId(30))),
+        Seen::Thrown(Value::Object(SECOND_OBJECT)),
     ),
     Row(
         Step::Text("not a function"),
-        Seen::Value(Value::Text(TextId(30))),
+        Seen::Value(Value::Text(SECOND_TEXT)),
     ),
     Row(
-        Step::Message(ObjectId(30)),
-        Seen::Property(Some(MESSAGE_30)),
+        Step::Message(SECOND_OBJECT),
+        Seen::Property(Some(SECOND_MESSAGE)),
     ),
     Row(
         Step::Start(Question::Two(
             Operation::InstanceOf,
-            Value::Object(ObjectId(6)),
-            Value::Object(ObjectId(1)),
+            Value::Object(ARRAY_PROTOTYPE),
+            Value::Object(OBJECT),
         )),
-        Seen::AsksRead(ObjectId(1), PropKey::Sym(SymbolId(0))),
+        Seen::AsksRead(OBJECT, PropKey::Sym(HAS_INSTANCE)),
     ),
     Row(
         Step::Answer(Given::Value(Value::Undefined)),
-        Seen::AsksRead(ObjectId(1), PropKey::Name(TextId(2))),
+        Seen::AsksRead(OBJECT, PropKey::Name(PROTOTYPE)),
     ),
     Row(
         Step::Answer(Given::Value(Value::Whole(1))),
-        Seen::Thrown(Value::Object(ObjectId(31))),
+        Seen::Thrown(Value::Object(THIRD_OBJECT)),
     ),
     Row(
-        Step::Message(ObjectId(31)),
-        Seen::Property(Some(MESSAGE_29)),
+        Step::Message(THIRD_OBJECT),
+        Seen::Property(Some(FIRST_MESSAGE)),
     ),
 ];
 
@@ -144,57 +148,57 @@ pub(crate) static INSTANCE_THROWS: [Row; 13] = [
     Row(
         Step::Start(Question::Two(
             Operation::InstanceOf,
-            Value::Object(ObjectId(6)),
-            Value::Object(ObjectId(1)),
+            Value::Object(ARRAY_PROTOTYPE),
+            Value::Object(OBJECT),
         )),
-        Seen::AsksRead(ObjectId(1), PropKey::Sym(SymbolId(0))),
+        Seen::AsksRead(OBJECT, PropKey::Sym(HAS_INSTANCE)),
     ),
     Row(Step::Answer(Given::Thrown(FIVE)), Seen::Thrown(FIVE)),
     Row(
         Step::Start(Question::Two(
             Operation::InstanceOf,
-            Value::Object(ObjectId(6)),
-            Value::Object(ObjectId(1)),
+            Value::Object(ARRAY_PROTOTYPE),
+            Value::Object(OBJECT),
         )),
-        Seen::AsksRead(ObjectId(1), PropKey::Sym(SymbolId(0))),
+        Seen::AsksRead(OBJECT, PropKey::Sym(HAS_INSTANCE)),
     ),
     Row(
-        Step::Answer(Given::Value(Value::Object(ObjectId(3)))),
+        Step::Answer(Given::Value(Value::Object(FUNCTION))),
         Seen::AsksCall(
-            Value::Object(ObjectId(3)),
-            Value::Object(ObjectId(1)),
-            Few(1, Some(Value::Object(ObjectId(6))), None),
+            Value::Object(FUNCTION),
+            Value::Object(OBJECT),
+            Few(1, Some(Value::Object(ARRAY_PROTOTYPE)), None),
         ),
     ),
     Row(Step::Answer(Given::Thrown(FIVE)), Seen::Thrown(FIVE)),
     Row(
         Step::Start(Question::Two(
             Operation::InstanceOf,
-            Value::Object(ObjectId(6)),
-            Value::Object(ObjectId(1)),
+            Value::Object(ARRAY_PROTOTYPE),
+            Value::Object(OBJECT),
         )),
-        Seen::AsksRead(ObjectId(1), PropKey::Sym(SymbolId(0))),
+        Seen::AsksRead(OBJECT, PropKey::Sym(HAS_INSTANCE)),
     ),
     Row(
         Step::Answer(Given::Value(Value::Undefined)),
-        Seen::AsksRead(ObjectId(1), PropKey::Name(TextId(2))),
+        Seen::AsksRead(OBJECT, PropKey::Name(PROTOTYPE)),
     ),
     Row(Step::Answer(Given::Thrown(FIVE)), Seen::Thrown(FIVE)),
     Row(
         Step::Start(Question::Two(
             Operation::InstanceOf,
-            Value::Object(ObjectId(6)),
-            Value::Object(ObjectId(1)),
+            Value::Object(ARRAY_PROTOTYPE),
+            Value::Object(OBJECT),
         )),
-        Seen::AsksRead(ObjectId(1), PropKey::Sym(SymbolId(0))),
+        Seen::AsksRead(OBJECT, PropKey::Sym(HAS_INSTANCE)),
     ),
     Row(
         Step::Answer(Given::Value(Value::Undefined)),
-        Seen::AsksRead(ObjectId(1), PropKey::Name(TextId(2))),
+        Seen::AsksRead(OBJECT, PropKey::Name(PROTOTYPE)),
     ),
     Row(
-        Step::Answer(Given::Value(Value::Object(ObjectId(2)))),
-        Seen::AsksProto(ObjectId(6)),
+        Step::Answer(Given::Value(Value::Object(OBJECT_PROTOTYPE))),
+        Seen::AsksProto(ARRAY_PROTOTYPE),
     ),
     Row(Step::Answer(Given::Thrown(FIVE)), Seen::Thrown(FIVE)),
     Row(Step::Left, Seen::Turns(9)),
