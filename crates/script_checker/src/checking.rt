@@ -37,7 +37,7 @@ fn checked_tree(alloc: Global, script: &Script) -> Result<Checked, NoMemory>
     let names = machine.scopes.names(setting.scope);
     machine.tasks.push(Task::Visit(root, setting))?;
     machine.run(alloc, script)?;
-    machine.finished(alloc, names, strict)
+    machine.finished(alloc, script.hashing(), names, strict)
 }
 
 /// The tree of a script: its items, its nodes with their places, its functions, literals and sites, and what its names are bound to. Where the script breaks

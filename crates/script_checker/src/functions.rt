@@ -18,7 +18,7 @@ use es_tree::{
     Body, DeclaredFunction, FunctionFacts, FunctionNo, Items, Named, Node, NodeId, Primary,
 };
 use property_keys::{NoMemory, Units};
-use script_grammar::Script;
+use script_grammar::{NameHashing, Script};
 use script_rules::{Scopes, own_units_at};
 use std::alloc::Global;
 
@@ -42,10 +42,14 @@ fn function_of(item: MadePart) -> Option<(FunctionNo, Named)>
 }
 
 /// The declared functions among the members from the last on, each with whether it is the last one of its name.
-fn functions_back(alloc: Global, items: MadePartList) -> Result<Stack<DeclaredFunction>, NoMemory>
+fn functions_back(
+    alloc: Global,
+    hashing: NameHashing,
+    items: MadePartList,
+) -> Result<Stack<DeclaredFunction>, NoMemory>
     ensures { IfOk result (λ functions. functions ≡ functions_in items) }
 {
-    let mut names = TextSet::new(alloc);
+    let mut names = TextSet::new(alloc, hashing);
     let mut functions = Stack::new(alloc);
     let mut rest = items.into_vec();
     'back: while let Some(item) = rest.pop() {
@@ -63,10 +67,14 @@ fn functions_back(alloc: Global, items: MadePartList) -> Result<Stack<DeclaredFu
 }
 
 /// The declared functions among the members, each with whether it is the last one of its name.
-pub fn functions_in(alloc: Global, items: MadePartList) -> Result<Items<DeclaredFunction>, NoMemory>
+pub fn functions_in(
+    alloc: Global,
+    hashing: NameHashing,
+    items: MadePartList,
+) -> Result<Items<DeclaredFunction>, NoMemory>
     ensures { IfOk result (λ functions. functions ≡ functions_in items) }
 {
-    let mut back = functions_back(alloc, items)?;
+    let mut back = functions_back(alloc, hashing, items)?;
     let mut functions = Items::new(alloc);
     'forth: while let Some(function) = back.pop() {
         functions.push(function)?;
@@ -119,7 +127,7 @@ pub fn function_made(
         names: scopes.names(inner.scope),
         arguments: own.arguments,
         items: nodes_in(alloc, items.as_slice())?,
-        declared: functions_in(alloc, items)?,
+        declared: functions_in(alloc, script.hashing(), items)?,
     };
     maker.function(facts, body)
 }

@@ -24,7 +24,7 @@ use crate::wraps::{wrap_first, wrap_made};
 use crate::{MadePart, MadeParts, Maker, Setting, Spot, Stack, StackedPart, Task};
 use es_tree::{Body, Checked};
 use property_keys::NoMemory;
-use script_grammar::{Atom, Pair, ParseNode, Quad, Script, Triple, Wrap};
+use script_grammar::{Atom, NameHashing, Pair, ParseNode, Quad, Script, Triple, Wrap};
 use script_rules::{Scopes, part};
 use std::alloc::Global;
 
@@ -428,7 +428,13 @@ impl Machine {
     }
 
     /// The tree of what was made, with the script's own code, which has so many names and is strict or not.
-    pub fn finished(mut self, alloc: Global, names: u32, strict: bool) -> Result<Checked, NoMemory>
+    pub fn finished(
+        mut self,
+        alloc: Global,
+        hashing: NameHashing,
+        names: u32,
+        strict: bool,
+    ) -> Result<Checked, NoMemory>
         requires { HasRoom self.maker → IsTree (tree_from self names strict) }
         ensures { IfOk result (λ c. c ≡ tree_from self names strict) }
     {
@@ -438,7 +444,7 @@ impl Machine {
             names,
             arguments: false,
             items: nodes_in(alloc, items.as_slice())?,
-            declared: functions_in(alloc, items)?,
+            declared: functions_in(alloc, hashing, items)?,
         };
         Ok(self.maker.finish(script, strict))
     }

@@ -166,7 +166,7 @@ pub fn own_facts(alloc: Global, script: &Script, body: u32) -> Result<OwnFacts, 
     ensures arguments { IfOk result (λ f. f.arguments ≡ names_arguments script.now.leaves (tree_at script.now.nodes body)) }
 {
     let text = text_units(alloc, b"arguments")?;
-    let mut names = TextSet::new(alloc);
+    let mut names = TextSet::new(alloc, script.hashing());
     let mut arguments = false;
     let mut rest = Stack::new(alloc);
     rest.push(body)?;

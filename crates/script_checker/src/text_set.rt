@@ -6,13 +6,14 @@ ghost use Rattle.property_keys.specs.Texts.{interned};
 
 use indexmap::IndexSet;
 use property_keys::{NoMemory, Units};
+use script_grammar::NameHashing;
 use std::alloc::Global;
 use std::marker::Model;
 
 /// Texts, each once.
 #[derive(Drop)]
 pub struct TextSet {
-    table: IndexSet<Units>,
+    table: IndexSet<Units, NameHashing>,
 }
 
 impl Model for TextSet {
@@ -25,11 +26,11 @@ impl Model for TextSet {
 
 impl TextSet {
     /// No texts. It takes no memory.
-    pub fn new(alloc: Global) -> TextSet
+    pub fn new(alloc: Global, hashing: NameHashing) -> TextSet
         ensures { result ≡ [] }
     {
         TextSet {
-            table: IndexSet::new(alloc),
+            table: IndexSet::with_hasher(alloc, hashing),
         }
     }
 
