@@ -1,0 +1,4 @@
+pub mod Bound
+pub mod Constructed
+pub mod ConstructorOrigins
+pub mod Links

@@ -1,0 +1,3 @@
+pub mod Constructing
+pub mod Laws
+pub mod Receivers
