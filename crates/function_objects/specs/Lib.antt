@@ -1,3 +1,4 @@
 pub mod Constructing
 pub mod Laws
+pub mod Making
 pub mod Receivers

@@ -3,8 +3,10 @@
 
 mod constructing;
 mod laws;
+mod making;
 mod receivers;
 
 pub use constructing::{new_constructed, note_construction, prototype_of, prototype_request};
 pub use laws::links_suffice;
+pub use making::function_made;
 pub use receivers::bind_this;

@@ -5,7 +5,7 @@ mod steps;
 
 use object_heap::Heap;
 use property_keys::NoMemory;
-use rows::{BESIDE, OBJECTS};
+use rows::{BESIDE, FUNCTIONS, OBJECTS};
 use std::alloc::Global;
 use std::test::Fail;
 use steps::{Begun, Step, holds};
@@ -31,5 +31,11 @@ fn what_is_beside_the_objects(rt: HostRuntime) -> Result<(), Fail> {
 #[test]
 fn objects_and_their_properties(rt: HostRuntime) -> Result<(), Fail> {
     assert_eq!(rt; first_wrong(rt.alloc(), &OBJECTS)?, None);
+    Ok(())
+}
+
+#[test]
+fn functions_of_the_script(rt: HostRuntime) -> Result<(), Fail> {
+    assert_eq!(rt; first_wrong(rt.alloc(), &FUNCTIONS)?, None);
     Ok(())
 }

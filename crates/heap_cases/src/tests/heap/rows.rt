@@ -1,9 +1,10 @@
 //! The steps of the tests, and what is to be seen of each.
 
-use super::steps::{Beside, Change, Key, Make, Read, Step, Texts, Which, Words};
+use super::steps::{Beside, Change, Content, Hidden, Key, Make, Read, Step, Texts, Which, Words};
 use descriptors::{Complete, Descriptor};
 use es_model::{CellNo, Class, ErrorKind, Intrinsic, StartText, WellKnown};
 use es_source::Place;
+use es_tree::{FunctionFacts, FunctionNo};
 use map_store::OriginId;
 use property_keys::{Attributes, Value};
 use slack_tracking::OriginKind;
@@ -214,4 +215,87 @@ pub(crate) static OBJECTS: [Step; 57] = [
     Step::On(Which::Nowhere, Change::Delete(LENGTH, true)),
     Step::On(Which::Nowhere, Change::Proto(Some(A))),
     Step::Of(Which::Nowhere, Read::Keys(&[])),
+];
+
+// ---- functions of the script
+
+const CONSTRUCTS: Which = Which::New(0);
+
+const ITS_PROTOTYPE: Which = Which::New(1);
+
+const METHOD: Which = Which::New(2);
+
+const FUNCTION_PARENT: Which = Which::Start(Intrinsic::Prototype(Class::Function));
+
+const PROTOTYPE: Key = Key::Name(StartText::Prototype);
+
+const CONSTRUCTOR: Key = Key::Name(StartText::Constructor);
+
+const TWO_PARAMETERS: FunctionFacts = FunctionFacts {
+    place: HERE,
+    parameters: 2,
+    this_names: 1,
+    constructor: true,
+    strict: true,
+};
+
+const NO_CONSTRUCTOR: FunctionFacts = FunctionFacts {
+    place: HERE,
+    parameters: 0,
+    this_names: 0,
+    constructor: false,
+    strict: false,
+};
+
+pub(crate) static FUNCTIONS: [Step; 21] = [
+    // one that constructs has a prototype object (10.2.5)
+    Step::Beside(Beside::Make(
+        Make::Function(FunctionNo(3), TWO_PARAMETERS, StartText::Print),
+        None,
+    )),
+    Step::Of(CONSTRUCTS, Read::NewObjects(2)),
+    Step::Of(CONSTRUCTS, Read::Function(FunctionNo(3), true, true)),
+    Step::Of(CONSTRUCTS, Read::Proto(Some(FUNCTION_PARENT))),
+    Step::Of(CONSTRUCTS, Read::Extensible(true)),
+    Step::Of(CONSTRUCTS, Read::Keys(&[LENGTH, NAME, PROTOTYPE])),
+    Step::Of(
+        CONSTRUCTS,
+        Read::Hidden(LENGTH, Hidden(Content::Number(2), false, true)),
+    ),
+    Step::Of(
+        CONSTRUCTS,
+        Read::Hidden(NAME, Hidden(Content::Text(StartText::Print), false, true)),
+    ),
+    Step::Of(
+        CONSTRUCTS,
+        Read::Hidden(
+            PROTOTYPE,
+            Hidden(Content::Object(ITS_PROTOTYPE), true, false),
+        ),
+    ),
+    Step::Of(ITS_PROTOTYPE, Read::Ordinary),
+    Step::Of(ITS_PROTOTYPE, Read::Proto(Some(PARENT))),
+    Step::Of(ITS_PROTOTYPE, Read::Extensible(true)),
+    Step::Of(ITS_PROTOTYPE, Read::Keys(&[CONSTRUCTOR])),
+    Step::Of(
+        ITS_PROTOTYPE,
+        Read::Hidden(CONSTRUCTOR, Hidden(Content::Object(CONSTRUCTS), true, true)),
+    ),
+    // a method does not construct, and has none (15.4.4)
+    Step::Beside(Beside::Make(
+        Make::Function(FunctionNo(0), NO_CONSTRUCTOR, StartText::Empty),
+        None,
+    )),
+    Step::Of(METHOD, Read::NewObjects(3)),
+    Step::Of(METHOD, Read::Function(FunctionNo(0), false, false)),
+    Step::Of(METHOD, Read::Proto(Some(FUNCTION_PARENT))),
+    Step::Of(METHOD, Read::Keys(&[LENGTH, NAME])),
+    Step::Of(
+        METHOD,
+        Read::Hidden(LENGTH, Hidden(Content::Number(0), false, true)),
+    ),
+    Step::Of(
+        METHOD,
+        Read::Hidden(NAME, Hidden(Content::Text(StartText::Empty), false, true)),
+    ),
 ];

@@ -2,7 +2,8 @@
 
 use descriptors::{Complete, Descriptor};
 use es_model::{CellNo, ErrorKind, Intrinsic, KeyList, ObjectKind, StartText, WellKnown};
-use es_tree::Items;
+use es_tree::{FunctionFacts, FunctionNo, Items};
+use function_objects::function_made;
 use map_store::OriginId;
 use object_heap::Heap;
 use property_keys::{
@@ -52,7 +53,21 @@ pub(crate) enum Make {
     Arguments(CellNo, CellNo),
     /// An error with a message.
     Error(ErrorKind, StartText),
+    /// A function of the script with its name.
+    Function(FunctionNo, FunctionFacts, StartText),
 }
+
+/// A value, by what it names.
+#[derive(Clone, Copy)]
+pub(crate) enum Content {
+    Number(i64),
+    Text(StartText),
+    Object(Which),
+}
+
+/// A stored property that is not enumerable: its value, whether it is writable, and whether it is configurable.
+#[derive(Clone, Copy)]
+pub(crate) struct Hidden(pub Content, pub bool, pub bool);
 
 /// A call with what it gives.
 #[derive(Clone, Copy)]
@@ -104,6 +119,7 @@ pub(crate) enum Change {
 #[derive(Clone, Copy)]
 pub(crate) enum Read {
     Own(Key, Option<Complete>),
+    Hidden(Key, Hidden),
     Keys(&'static [Key]),
     Proto(Option<Which>),
     Extensible(bool),
@@ -113,6 +129,10 @@ pub(crate) enum Read {
     /// The cell that an index of an arguments object shares.
     Shared(usize, Option<CellNo>),
     Ordinary,
+    /// A function of the script, whether it can construct, and whether it is strict.
+    Function(FunctionNo, bool, bool),
+    /// How many objects are new.
+    NewObjects(u32),
 }
 
 /// How many objects and texts a heap began with.
@@ -135,6 +155,25 @@ impl Begun {
             Which::Start(intrinsic) => intrinsic.object(),
             Which::New(n) => ObjectId(self.objects.saturating_add(n)),
             Which::Nowhere => ObjectId(u32::MAX),
+        }
+    }
+
+    fn value(self, holds: Content) -> Value {
+        match holds {
+            Content::Number(n) => Value::Whole(n),
+            Content::Text(text) => Value::Text(text.number()),
+            Content::Object(which) => Value::Object(self.number(which)),
+        }
+    }
+
+    fn property(self, hidden: Hidden) -> Complete {
+        Complete::Stored {
+            value: self.value(hidden.0),
+            attributes: Attributes {
+                writable: hidden.1,
+                enumerable: false,
+                configurable: hidden.2,
+            },
         }
     }
 
@@ -303,6 +342,9 @@ fn made(heap: &mut Heap, make: Make, proto: Option<ObjectId>) -> Result<ObjectId
     let mut steps = counting();
     let kind = match make {
         Make::Error(kind, text) => return heap.make_error(kind, text.number(), &mut steps),
+        Make::Function(function, facts, name) => {
+            return function_made(heap, function, facts, name.number(), &mut steps);
+        }
         Make::Ordinary => ObjectKind::Ordinary,
         Make::Text(text) => ObjectKind::Text(text.number()),
         Make::Proxy(target, handler) => ObjectKind::Proxy {
@@ -368,6 +410,14 @@ fn reads(heap: &Heap, begun: Begun, object: ObjectId, read: Read) -> Result<bool
     let is_so = match read {
         Read::Keys(keys) => return has_keys(heap, object, keys),
         Read::Own(key, property) => is_own(heap, object, number_of_key(key), property),
+        Read::Hidden(key, hidden) => {
+            is_own(
+                heap,
+                object,
+                number_of_key(key),
+                Some(begun.property(hidden)),
+            )
+        }
         Read::Proto(proto) => heap.proto(object) == begun.perhaps(proto),
         Read::Extensible(is_extensible) => heap.extensible(object) == is_extensible,
         Read::Message(text) => {
@@ -377,6 +427,10 @@ fn reads(heap: &Heap, begun: Begun, object: ObjectId, read: Read) -> Result<bool
         Read::Target(target) => target_of(heap.kind(object)) == begun.perhaps(target),
         Read::Shared(i, cell) => shared_by(heap.kind(object), i) == cell,
         Read::Ordinary => matches!(heap.kind(object), ObjectKind::Ordinary),
+        Read::Function(number, constructs, is_strict) => {
+            is_function(heap.kind(object), number, constructs, is_strict)
+        }
+        Read::NewObjects(count) => heap.objects() == begun.objects.saturating_add(count),
     };
     Ok(is_so)
 }
@@ -402,6 +456,17 @@ fn target_of(kind: &ObjectKind) -> Option<ObjectId> {
     match kind {
         ObjectKind::Proxy { target, .. } => *target,
         _ => None,
+    }
+}
+
+fn is_function(kind: &ObjectKind, number: FunctionNo, constructs: bool, is_strict: bool) -> bool {
+    match kind {
+        ObjectKind::Function {
+            function,
+            constructor,
+            strict,
+        } => *function == number && *constructor == constructs && *strict == is_strict,
+        _ => false,
     }
 }
 
