@@ -222,9 +222,12 @@ fn holds(alloc: Global, row: Row) -> Result<bool, NoMemory> {
         Found::Throws(value) => Ok(found == Err(value) && heap.objects() == count),
         Found::ThrowsRevoked => {
             // its message is a new text
+            let Ok(text) = u32::try_from(texts) else {
+                return Ok(false);
+            };
             Ok(
                 found == Err(Value::Object(ObjectId(count)))
-                    && is_type_error(&heap, ObjectId(count), TextId(texts as u32))
+                    && is_type_error(&heap, ObjectId(count), TextId(text))
                     && heap.texts_ref().len() == texts.saturating_add(1),
             )
         }
@@ -329,18 +332,20 @@ enum Step {
     Count(u32),
 }
 
+/// How many start objects there are: the first object of the steps has this number.
+const START_OBJECTS: u32 = 29;
+
 /// The function at line 4 constructs twice, with that at line 2 between. The event of each names the same origin, and makes no object.
 static STEPS: [Step; 9] = [
-    // the 29 start objects come first
-    Step::Constructs(4, ObjectId(29)),
-    Step::Constructs(2, ObjectId(30)),
+    Step::Constructs(4, ObjectId(START_OBJECTS)),
+    Step::Constructs(2, ObjectId(START_OBJECTS + 1)),
     Step::Notes(2),
     Step::Notes(4),
-    Step::Constructs(4, ObjectId(31)),
+    Step::Constructs(4, ObjectId(START_OBJECTS + 2)),
     Step::Origin(4, OriginId(0)),
     Step::Origin(2, OriginId(1)),
     Step::Origin(9, OriginId(2)),
-    Step::Count(32),
+    Step::Count(START_OBJECTS + 3),
 ];
 
 fn step_holds(heap: &mut Heap, step: Step) -> Result<bool, NoMemory> {
