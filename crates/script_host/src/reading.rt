@@ -13,7 +13,10 @@ use std::alloc::Global;
 pub fn read_script(alloc: Global, bytes: &[u8]) -> Result<Checked, ReadStop>
     ensures { ReadsScript bytes.now result }
 {
-    let tokens = tokens(alloc, bytes)?;
-    let script = parse(alloc, &tokens)?;
+    // The tokens are needed no more once the script stands, so their memory is given back before the rules are checked.
+    let script = {
+        let tokens = tokens(alloc, bytes)?;
+        parse(alloc, &tokens)?
+    };
     check(alloc, script)
 }
