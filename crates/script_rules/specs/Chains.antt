@@ -1,10 +1,11 @@
 -- Of each scope of a table the list of itself and the scopes around it, the innermost first.
-use Rattle.std.specs.Prelude.{◌≡◌, ◌<◌, ℕ, ◌+◌, ◌^◌, List, [], ◌∷◌, ◌++◌, length, Option, Some, None, Result, Ok, Err, unwrap_or, slice_index_or}
+use Rattle.std.specs.Prelude.{◌≡◌, ◌<◌, ℕ, ◌+◌, ◌^◌, Bool, not, ◌&&◌, ◌||◌, nat_eq, if◌then◌else◌, List, [], ◌∷◌, ◌++◌, length, Option, Some, None, Result, Ok, Err, unwrap_or, slice_index_or}
 use Rattle.script_rules.specs.declared.resolved.Resolved.{Resolved}
 use Rattle.script_rules.specs.declared.scope.Scope.{Scope}
+use Rattle.script_rules.specs.declared.scope_entry.Outside.{Outside}
 use Rattle.script_rules.specs.declared.scope_entry.ScopeEntry.{ScopeEntry}
 use Rattle.script_rules.specs.declared.scope_entry.ScopeId.{ScopeId}
-use Rattle.script_rules.specs.Scopes.{first_place, in_force, in_force_after}
+use Rattle.script_rules.specs.Scopes.{first_place, in_force, in_force_after, is_in_function, is_of_function}
 
 abbrev pub chain_at : List (List Scope) → ℕ → List Scope
 chain_at chains id = slice_index_or chains id []
@@ -22,6 +23,24 @@ IsKnown chains (Some id) = id.0 < length chains
 abbrev pub names_in : List Scope → ℕ
 names_in [] = 0
 names_in (s ∷ outer) = length s.names
+
+-- ---- scopes that say nothing of any name: they have none, and are not those of functions
+
+abbrev pub is_silent : Scope → Bool
+is_silent s = not (is_of_function s.owner) && nat_eq (length s.names) 0
+
+-- the scopes from the first on that may say something of a name
+abbrev pub speaking : List Scope → List Scope
+speaking [] = []
+speaking (s ∷ outer) = if is_silent s then speaking outer else s ∷ outer
+
+-- what is known of the scopes around a scope
+pub record IsOutside (chains : List (List Scope)) (around : Option ScopeId) (o : Outside) : Type 0 where
+  pub outer : o.outer ≡ around
+  pub speaker : IsKnown chains o.speaker
+  pub speaks : chain_from chains o.speaker ≡ speaking (chain_from chains around)
+  pub in_force : o.in_force ≡ in_force (chain_from chains around)
+  pub in_function : o.in_function ≡ is_in_function (chain_from chains around)
 
 -- ---- what entering a scope does
 
@@ -46,10 +65,13 @@ chains_after done (e ∷ es) = chains_after (done ++ chain_of done e ∷ []) es
 pub record Counts (outside : List Scope) (e : ScopeEntry) : Type 0 where
   pub first : e.first ≡ first_place e.scope.owner (in_force outside)
   pub in_force : e.in_force ≡ in_force (e.scope ∷ outside)
+  pub in_function : e.in_function ≡ is_in_function (e.scope ∷ outside)
   pub room : e.first + length e.scope.names < 2 ^ 32
 
 pub record Fits (chains : List (List Scope)) (e : ScopeEntry) : Type 0 where
   pub outer : IsKnown chains e.outer
+  pub speaker : IsKnown chains e.speaker
+  pub speaks : chain_from chains e.speaker ≡ speaking (chain_from chains e.outer)
   pub counts : Counts (chain_from chains e.outer) e
 
 abbrev pub AllFit : List (List Scope) → List ScopeEntry → Type 0
@@ -64,15 +86,18 @@ IsBelow n (Some id) = id.0 < n
 
 pub record IsEntry (chains : List (List Scope)) (n : ℕ) (e : ScopeEntry) : Type 0 where
   pub chain : chain_at chains n ≡ chain_of chains e
-  pub outer : IsBelow n e.outer
+  pub speaker : IsBelow n e.speaker
+  pub speaks : chain_from chains e.speaker ≡ speaking (chain_from chains e.outer)
   pub counts : Counts (chain_from chains e.outer) e
 
--- the entry of a scope, where so many names are in force outside of it
-pub record HoldsScope (outside : ℕ) (around : Option ScopeId) (s : Scope) (e : ScopeEntry) : Type 0 where
+-- the entry of a scope, where this is known of those outside of it
+pub record HoldsScope (outside : Outside) (s : Scope) (e : ScopeEntry) : Type 0 where
   pub scope : e.scope ≡ s
-  pub outer : e.outer ≡ around
-  pub first : e.first ≡ first_place s.owner outside
-  pub in_force : e.in_force ≡ in_force_after s.owner outside (length s.names)
+  pub outer : e.outer ≡ outside.outer
+  pub speaker : e.speaker ≡ outside.speaker
+  pub first : e.first ≡ first_place s.owner outside.in_force
+  pub in_force : e.in_force ≡ in_force_after s.owner outside.in_force (length s.names)
+  pub in_function : e.in_function ≡ (is_of_function s.owner || outside.in_function)
   pub room : e.first + length s.names < 2 ^ 32
 
 -- what a scope says of a name, or what the scopes outside say

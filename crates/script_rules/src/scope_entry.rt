@@ -2,7 +2,7 @@
 
 ghost use Rattle.std.specs.Prelude.{◌≡◌, ◌||◌, ℕ, ◌+◌, ◌<◌, ◌^◌, length, IfOk};
 ghost use Rattle.script_rules.specs.Bounds.{place_from};
-ghost use Rattle.script_rules.specs.Chains.{HoldsScope, Says};
+ghost use Rattle.script_rules.specs.Chains.{HoldsScope, Says, is_silent};
 ghost use Rattle.script_rules.specs.Scopes.{first_place, found_in, in_force_after, is_callee, is_of_function, own_or_captured, passed_at, resolved_by};
 
 use crate::{Owner, Resolved, Scope};
@@ -13,13 +13,26 @@ use property_keys::{NoMemory, Units};
 #[derive(Clone, Copy)]
 pub struct ScopeId(pub u32);
 
-/// A scope, the one around it, the place of its first name, and how many names of the running body are in force after it.
+/// What is known of the scopes around a scope: the nearest of them, the nearest that may say something of a name, how many names of the running body are in
+/// force, and whether one of them is that of a function.
+#[derive(Clone, Copy)]
+pub struct Outside {
+    pub outer: Option<ScopeId>,
+    pub speaker: Option<ScopeId>,
+    pub in_force: u32,
+    pub in_function: bool,
+}
+
+/// A scope, the one around it, the nearest around it that may say something of a name, the place of its first name, how many names of the running body are in
+/// force after it, and whether what stands in it stands in a function.
 #[derive(Drop)]
 pub struct ScopeEntry {
     pub scope: Scope,
     pub outer: Option<ScopeId>,
+    pub speaker: Option<ScopeId>,
     pub first: u32,
     pub in_force: u32,
+    pub in_function: bool,
 }
 
 /// A name of the running body, unless the use stands in a function inside it.
@@ -103,20 +116,30 @@ pub fn is_away(away: bool, owner: Owner) -> bool
     away || is_of_function(owner)
 }
 
-/// The entry of a scope, where so many names are in force outside of it. `NoMemory` exactly where there is no room for its names.
-pub fn entry_of(outside: u32, outer: Option<ScopeId>, scope: Scope) -> Result<ScopeEntry, NoMemory>
-    ensures { IfOk result (λ e. HoldsScope outside outer scope e) }
+/// Whether a scope says nothing of any name: it has none, and is not that of a function.
+pub fn is_silent(scope: &Scope) -> bool
+    ensures { result ≡ is_silent scope.now }
 {
-    let first = first_place(scope.owner, outside);
+    !is_of_function(scope.owner) && scope.names.len() == 0
+}
+
+/// The entry of a scope, where this is known of those outside of it. `NoMemory` exactly where there is no room for its names.
+pub fn entry_of(outside: Outside, scope: Scope) -> Result<ScopeEntry, NoMemory>
+    ensures { IfOk result (λ e. HoldsScope outside scope e) }
+{
+    let first = first_place(scope.owner, outside.in_force);
     let Some(after) = first.checked_add(scope.names.len()) else {
         return Err(NoMemory);
     };
     let in_force = in_force_after(scope.owner, after);
+    let in_function = is_of_function(scope.owner) || outside.in_function;
     Ok(ScopeEntry {
         scope,
-        outer,
+        outer: outside.outer,
+        speaker: outside.speaker,
         first,
         in_force,
+        in_function,
     })
 }
 

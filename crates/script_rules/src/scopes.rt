@@ -1,10 +1,10 @@
 //! The table of scopes.
 
 ghost use Rattle.std.specs.Prelude.{◌≡◌, ◌<◌, [], length};
-ghost use Rattle.script_rules.specs.Chains.{Entered, IsEntry, IsKnown, chain_at, chain_from, names_in};
-ghost use Rattle.script_rules.specs.Scopes.{in_force, is_in_function, resolved};
+ghost use Rattle.script_rules.specs.Chains.{Entered, IsEntry, IsKnown, IsOutside, chain_at, names_in};
+ghost use Rattle.script_rules.specs.Scopes.{is_in_function, resolved};
 
-use crate::scope_entry::{ScopeEntry, entry_of, is_away, is_of_function, says};
+use crate::scope_entry::{Outside, ScopeEntry, entry_of, is_away, is_silent, says};
 use crate::{Resolved, Scope, ScopeId};
 use es_tree::Binding;
 use property_keys::{NoMemory, Units};
@@ -48,14 +48,30 @@ impl Scopes {
         &self.all[scope.0 as usize]
     }
 
-    /// How many names of the running body are in force within a scope.
-    fn in_force(&self, scope: Option<ScopeId>) -> u32
-        requires { IsKnown self.now scope }
-        ensures { result ≡ in_force (chain_from self.now scope) }
+    /// What is known of the scopes around a scope that is entered within another, or within none.
+    fn outside(&self, outer: Option<ScopeId>) -> Outside
+        requires { IsKnown self.now outer }
+        ensures { IsOutside self.now outer result }
     {
-        match scope {
-            Some(id) => self.entry(id).in_force,
-            None => 0,
+        let Some(id) = outer else {
+            return Outside {
+                outer,
+                speaker: None,
+                in_force: 0,
+                in_function: false,
+            };
+        };
+        let entry = self.entry(id);
+        let speaker = if is_silent(&entry.scope) {
+            entry.speaker
+        } else {
+            outer
+        };
+        Outside {
+            outer,
+            speaker,
+            in_force: entry.in_force,
+            in_function: entry.in_function,
         }
     }
 
@@ -64,19 +80,19 @@ impl Scopes {
         requires { IsKnown self.old outer }
         ensures { Entered self.old self.new outer scope result }
     {
-        let outside = self.in_force(outer);
+        let outside = self.outside(outer);
         let id = self.all.len();
         if id >= u32::MAX as usize {
             return Err(NoMemory);
         }
-        let entry = entry_of(outside, outer, scope)?;
+        let entry = entry_of(outside, scope)?;
         let Ok(()) = self.all.push(entry) else {
             return Err(NoMemory);
         };
         Ok(ScopeId(id as u32))
     }
 
-    /// What a name is bound to that is used within a known scope.
+    /// What a name is bound to that is used within a known scope. Scopes that say nothing of any name are not looked at.
     pub fn resolved(&self, scope: ScopeId, units: &Units) -> Resolved
         requires { scope.0 < length self.now }
         ensures { result ≡ resolved (chain_at self.now scope.0) units.now }
@@ -89,7 +105,7 @@ impl Scopes {
                 return said;
             }
             away = is_away(away, entry.scope.owner);
-            next = entry.outer;
+            next = entry.speaker;
         }
         Resolved::Finds(Binding::Global)
     }
@@ -99,15 +115,7 @@ impl Scopes {
         requires { scope.0 < length self.now }
         ensures { result ≡ is_in_function (chain_at self.now scope.0) }
     {
-        let mut next = Some(scope);
-        'outwards: while let Some(id) = next {
-            let entry = self.entry(id);
-            if is_of_function(entry.scope.owner) {
-                return true;
-            }
-            next = entry.outer;
-        }
-        false
+        self.entry(scope).in_function
     }
 
     /// How many names a known scope has.
