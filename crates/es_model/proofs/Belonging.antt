@@ -12,7 +12,7 @@ use Rattle.es_model.specs.Grows.{Grows}
 use Rattle.es_model.specs.Known.{IsObject, IsSymbol, IsKnown, IsKnownKey, IsKnownComplete}
 use Rattle.es_model.specs.Fits.{IsKnownReply}
 use Rattle.es_model.specs.Fits.{IsKnownCompletion}
-use Rattle.es_model.specs.Belongs.{FrameName, NamesObject, NamesKind, NamesValue, NamesKey, NamesProperty, NamesDescriptor, NamesCompletion, NamesText, NamesSymbol, NamesCell, NamesNode, NamesFunction, NamesSite, HasName, HasNames, NamesStay, ChangesKeepNames, KeepsNames}
+use Rattle.es_model.specs.Belongs.{FrameName, NamesObject, NamesKind, NamesValue, NamesKey, NamesProperty, NamesDescriptor, NamesCompletion, NamesText, NamesSymbol, NamesCell, NamesNode, NamesFunction, NamesSite, NamesTop, HasName, HasNames, NamesStay, ChangesKeepNames, KeepsNames}
 use Rattle.es_model.proofs.Growing.{grows-changed}
 use Rattle.es_model.proofs.Carried.{model-grows, model-script}
 use Rattle.es_model.proofs.Rests.{leaves-changed}
@@ -53,6 +53,7 @@ name-later script l l' g (NamesCell c) h = cell-later l l' g c h
 name-later script l l' g (NamesNode n) h = h
 name-later script l l' g (NamesFunction f) h = h
 name-later script l l' g (NamesSite s) h = h
+name-later script l l' g NamesTop h = let x = g.cells in omega arith
 
 pub names-stay : NamesStay
 names-stay script names l l' g h = all-map (HasName script l) (HasName script l') (name-later script l l' g) names h

@@ -1,6 +1,6 @@
 -- Which frames belong to the lists of a world: all that a frame keeps is there, each object with the kind that its algorithm has found. A crate of
 -- frames lists what each of its frames keeps, and says `Belongs names_of l frame`.
-use Rattle.std.specs.Prelude.{ℕ, Bool, IsTrue, List, ◌<◌, length}
+use Rattle.std.specs.Prelude.{ℕ, Bool, IsTrue, List, ◌<◌, ◌≤◌, length}
 use Rattle.std.specs.List.{AllByRecursion}
 use Rattle.property_keys.specs.declared.identifiers.ObjectId.{ObjectId}
 use Rattle.property_keys.specs.declared.identifiers.SymbolId.{SymbolId}
@@ -12,7 +12,7 @@ use Rattle.descriptors.specs.declared.property.Complete.{Complete}
 use Rattle.es_tree.specs.declared.numbers.FunctionNo.{FunctionNo}
 use Rattle.es_tree.specs.declared.numbers.NodeId.{NodeId}
 use Rattle.es_tree.specs.declared.numbers.SiteId.{SiteId}
-use Rattle.es_tree.specs.Tree.{Tree}
+use Rattle.es_tree.specs.Tree.{Tree, top_names}
 use Rattle.es_model.specs.declared.kinds.CellNo.{CellNo}
 use Rattle.es_model.specs.declared.kinds.ObjectKind.{ObjectKind}
 use Rattle.es_model.specs.Completions.{Completion}
@@ -41,6 +41,8 @@ pub data FrameName : Type 0 where
   NamesNode : NodeId → FrameName
   NamesFunction : FunctionNo → FrameName
   NamesSite : SiteId → FrameName
+  -- the cells of the script's top scope
+  NamesTop : FrameName
 
 abbrev pub HasName : Tree → Lists → FrameName → Type 0
 HasName script l (NamesObject o) = IsObject l o
@@ -56,6 +58,7 @@ HasName script l (NamesCell c) = IsCell l c
 HasName script l (NamesNode n) = n.0 < length script.nodes
 HasName script l (NamesFunction f) = f.0 < length script.functions
 HasName script l (NamesSite s) = s.0 < length script.sites
+HasName script l NamesTop = top_names script ≤ length l.cells
 
 abbrev pub HasNames : Tree → Lists → List FrameName → Type 0
 HasNames script l names = AllByRecursion (HasName script l) names

@@ -1,9 +1,9 @@
 -- Programs that keep worlds sound: at each question and at their end the world is sound, and what they ask and answer names what is there. At a halt
 -- the world is intact.
-use Rattle.std.specs.Prelude.{◌≡◌, ◌<◌, ℕ, List, length}
+use Rattle.std.specs.Prelude.{◌≡◌, ◌<◌, ◌≤◌, ℕ, List, length}
 use Rattle.std.specs.List.{AllByRecursion}
 use Rattle.es_tree.specs.declared.numbers.FunctionNo.{FunctionNo}
-use Rattle.es_tree.specs.Tree.{Tree}
+use Rattle.es_tree.specs.Tree.{Tree, top_names}
 use Rattle.es_model.specs.declared.kinds.CellNo.{CellNo}
 use Rattle.es_model.specs.declared.running.Running.{Running}
 use Rattle.es_model.specs.Completions.{Completion}
@@ -22,12 +22,14 @@ pub record IsLater (w v : World) : Type 0 where
   pub lists : Grows w.lists v.lists
   pub script : v.script ≡ w.script
 
--- what a running body names is there
+-- what a running body names is there, and so are the cells of the script's top scope, which the functions that it makes see
 pub record IsKnownRunning (script : Tree) (l : Lists) (body : Running) : Type 0 where
   pub function : IfThere (λ (f : FunctionNo). f.0 < length script.functions) body.function
   pub callee : IfThere (IsObject l) body.callee
   pub arguments : IfThere (IsObject l) body.arguments
   pub this : IsKnown l body.this
+  pub constructs : IfThere (IsObject l) body.constructs
+  pub top : top_names script ≤ length l.cells
 
 abbrev pub AreCells : Lists → List CellNo → Type 0
 AreCells l cells = AllByRecursion (IsCell l) cells

@@ -4,12 +4,15 @@ use es_tree::{FunctionNo, NodeId};
 use property_keys::{ObjectId, Value};
 
 /// The body that runs: its function, or none where it is the script's own code, and what is the same in all of it.
+///
+/// `constructs` is the new object where the body runs as a constructor: it is the result, where the body returns no other object (ECMA-262, 10.2.2).
 #[derive(Clone, Copy)]
 pub struct Running {
     pub function: Option<FunctionNo>,
     pub callee: Option<ObjectId>,
     pub arguments: Option<ObjectId>,
     pub this: Value,
+    pub constructs: Option<ObjectId>,
     pub strict: bool,
 }
 
