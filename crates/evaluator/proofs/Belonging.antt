@@ -12,7 +12,7 @@ use Rattle.property_keys.specs.Limits.{most_units}
 use Rattle.property_keys.specs.Wholes.{IsWhole}
 use Rattle.es_tree.specs.declared.numbers.FunctionNo.{FunctionNo}
 use Rattle.es_tree.specs.declared.numbers.SiteId.{SiteId}
-use Rattle.es_tree.specs.Tree.{Tree, IsSite}
+use Rattle.es_tree.specs.Tree.{Tree, IsSite, top_names}
 use Rattle.es_model.specs.declared.answers.Reply.TheVariants as reply
 use Rattle.es_model.specs.declared.answers.Stop.{Stop}
 use Rattle.es_model.specs.declared.answers.Turn.{Turn}
@@ -47,22 +47,25 @@ use Rattle.object_heap.proofs.Retaining.{retains_none}
 use Rattle.object_heap.proofs.Standing.{cells-stand, count-stands, kind-stands, symbols-stand, texts-stand}
 use Rattle.evaluator.specs.declared.frames.Current.{Current}
 use Rattle.evaluator.specs.declared.frames.Current.TheVariants.{At, EndedBy}
+use Rattle.evaluator.specs.declared.frames.Construction.{Construction}
 use Rattle.evaluator.specs.declared.frames.EvalFrame.{EvalFrame}
+use Rattle.evaluator.specs.declared.frames.EvalFrame.TheVariants as frame
 use Rattle.evaluator.specs.declared.frames.Next.{Next}
-use Rattle.evaluator.specs.declared.frames.Next.TheVariants.{GoOn, Asks, Ends}
+use Rattle.evaluator.specs.declared.frames.Next.TheVariants.{GoOn, Asks}
 use Rattle.evaluator.specs.declared.frames.Pending.{Pending}
 use Rattle.evaluator.specs.declared.items.Asked.{Asked}
 use Rattle.evaluator.specs.declared.items.Job.TheVariants as job
-use Rattle.es_model.specs.declared.running.Part.TheVariants as part_of
+use Rattle.es_model.specs.declared.running.Part.{Part}
 use Rattle.evaluator.specs.declared.references.Arithmetic.{Arithmetic}
 use Rattle.evaluator.specs.declared.references.Reference.{Reference}
 use Rattle.evaluator.specs.declared.references.Reference.TheVariants as reference
 use Rattle.evaluator.specs.Contexts.{Context, context}
-use Rattle.evaluator.specs.Names.{HasSite, IsHereNamed, IsHereNext, IsKnownCurrent, NamesItems, NamesNext, NamesTurn, names_of, names_of_asked, names_of_body, names_of_item, names_of_items, names_of_reference, names_of_sites, optional_names}
+use Rattle.evaluator.specs.Frames.{Waiting}
+use Rattle.evaluator.specs.Names.{HasSite, IsHereNamed, IsHereNext, IsKnownCurrent, NamesItems, NamesNext, NamesTurn, names_of, names_of_asked, names_of_body, names_of_construction, names_of_item, names_of_items, names_of_reference, names_of_sites, names_of_waiting, optional_names}
 use Rattle.evaluator.specs.Plans.{ended}
 use Rattle.evaluator.specs.References.{base_of, object_or_undefined}
 use Rattle.evaluator.specs.Scopes.{fresh_cells, world_with}
-use Rattle.evaluator.specs.Soundness.{KeepsCurrent, KeepsItems, StaysSoundNext}
+use Rattle.evaluator.specs.Soundness.{KeepsCurrent, StaysSoundNext}
 use Rattle.evaluator.specs.Assignments.{stepped}
 use Rattle.evaluator.specs.Values.{calculate, key_of_text, whole_of}
 use Rattle.evaluator.proofs.LiteralsKept.{object-there}
@@ -119,6 +122,8 @@ running_later script l m body g h = record {
   callee = there-map (IsObject l) (IsObject m) (object-later l m g) body.callee h.callee;
   arguments = there-map (IsObject l) (IsObject m) (object-later l m g) body.arguments h.arguments;
   this = known-later l m g body.this h.this;
+  constructs = there-map (IsObject l) (IsObject m) (object-later l m g) body.constructs h.constructs;
+  top = (let x = g.cells in let y = h.top in omega arith);
 }
 
 pub cells_later : (l m : Lists) (cells : List CellNo) → Grows l m → AreCells l cells → AreCells m cells
@@ -250,24 +255,41 @@ option_there : {A : Type 0} (script : Tree) (l : Lists) (name : A → FrameName)
 option_there script l name P f None h = tt
 option_there script l name P f (Some x) h = f x h.0
 
+objects_named : (script : Tree) (l : Lists) (o : Option ObjectId) → IfThere (IsObject l) o → HasNames script l (optional_names NamesObject o)
+objects_named script l o h = option_named script l NamesObject (IsObject l) (λ o k. k) o h
+
+objects_there : (script : Tree) (l : Lists) (o : Option ObjectId) → HasNames script l (optional_names NamesObject o) → IfThere (IsObject l) o
+objects_there script l o h = option_there script l NamesObject (IsObject l) (λ o k. k) o h
+
 body-named : (script : Tree) (l : Lists) (body : Running) → IsKnownRunning script l body → HasNames script l (names_of_body body)
 body-named script l body h =
-    let P : FrameName → Type 0 = HasName script l in (
-      h.this,
-      all_both P (optional_names NamesFunction body.function) (optional_names NamesObject body.callee ++ optional_names NamesObject body.arguments) (option_named script l NamesFunction (λ (f : FunctionNo). f.0 < length script.functions) (λ f k. k) body.function h.function)
-          (all_both P (optional_names NamesObject body.callee) (optional_names NamesObject body.arguments) (option_named script l NamesObject (IsObject l) (λ o k. k) body.callee h.callee)
-          (option_named script l NamesObject (IsObject l) (λ o k. k) body.arguments h.arguments)),
+    let P : FrameName → Type 0 = HasName script l in
+    let one : List FrameName = optional_names NamesObject body.constructs in
+    let two : List FrameName = optional_names NamesObject body.arguments ++ one in
+    let three : List FrameName = optional_names NamesObject body.callee ++ two in (
+      h.top,
+      (
+        h.this,
+        all_both P (optional_names NamesFunction body.function) three (option_named script l NamesFunction (λ (f : FunctionNo). f.0 < length script.functions) (λ f k. k) body.function h.function)
+            (all_both P (optional_names NamesObject body.callee) two (objects_named script l body.callee h.callee)
+            (all_both P (optional_names NamesObject body.arguments) one (objects_named script l body.arguments h.arguments) (objects_named script l body.constructs h.constructs))),
+      ),
     )
 
 body-there : (script : Tree) (l : Lists) (body : Running) → HasNames script l (names_of_body body) → IsKnownRunning script l body
 body-there script l body h =
     let P : FrameName → Type 0 = HasName script l in
-    let two : List FrameName = optional_names NamesObject body.callee ++ optional_names NamesObject body.arguments in
-    let rest = all_last P (optional_names NamesFunction body.function) two h.1 in record {
-      function = option_there script l NamesFunction (λ (f : FunctionNo). f.0 < length script.functions) (λ f k. k) body.function (all_first P (optional_names NamesFunction body.function) two h.1);
-      callee = option_there script l NamesObject (IsObject l) (λ o k. k) body.callee (all_first P (optional_names NamesObject body.callee) (optional_names NamesObject body.arguments) rest);
-      arguments = option_there script l NamesObject (IsObject l) (λ o k. k) body.arguments (all_last P (optional_names NamesObject body.callee) (optional_names NamesObject body.arguments) rest);
-      this = h.0;
+    let one : List FrameName = optional_names NamesObject body.constructs in
+    let two : List FrameName = optional_names NamesObject body.arguments ++ one in
+    let three : List FrameName = optional_names NamesObject body.callee ++ two in
+    let behind = all_last P (optional_names NamesFunction body.function) three h.1.1 in
+    let last = all_last P (optional_names NamesObject body.callee) two behind in record {
+      function = option_there script l NamesFunction (λ (f : FunctionNo). f.0 < length script.functions) (λ f k. k) body.function (all_first P (optional_names NamesFunction body.function) three h.1.1);
+      callee = objects_there script l body.callee (all_first P (optional_names NamesObject body.callee) two behind);
+      arguments = objects_there script l body.arguments (all_first P (optional_names NamesObject body.arguments) one last);
+      this = h.1.0;
+      constructs = objects_there script l body.constructs (all_last P (optional_names NamesObject body.arguments) one last);
+      top = h.0;
     }
 
 cells-named : (script : Tree) (l : Lists) (cells : List CellNo) → AreCells l cells → HasNames script l (map NamesCell cells)
@@ -287,17 +309,17 @@ items-there script l [] h = tt
 items-there script l (p ∷ ps) h =
     (all_first (HasName script l) (names_of_item p.item) (names_of_items ps) h, items-there script l ps (all_last (HasName script l) (names_of_item p.item) (names_of_items ps) h))
 
--- a frame that waits
-pub frame_named : (script : Tree) (l : Lists) (body : Running) (cells : List CellNo) (ps : List Pending) (i : Asked) (f : EvalFrame) → f ≡ record { body = body; cells = cells; pending = ps; asked = i } →
-    IsKnownRunning script l body → AreCells l cells → NamesItems script l ps → HasNames script l (names_of_asked i) → HasNames script l (names_of f)
+-- a body that waits
+pub frame_named : (script : Tree) (l : Lists) (body : Running) (cells : List CellNo) (ps : List Pending) (i : Asked) (f : Waiting) → f ≡ record { body = body; cells = cells; pending = ps; asked = i } →
+    IsKnownRunning script l body → AreCells l cells → NamesItems script l ps → HasNames script l (names_of_asked i) → HasNames script l (names_of_waiting f)
 frame_named script l body cells ps i f is running there items asks =
     let P : FrameName → Type 0 = HasName script l in
-    subst (λ (x : EvalFrame). HasNames script l (names_of x)) (sym is)
+    subst (λ (x : Waiting). HasNames script l (names_of_waiting x)) (sym is)
     (all_both P (names_of_body body) (map NamesCell cells ++ (names_of_items ps ++ names_of_asked i)) (body-named script l body running)
     (all_both P (map NamesCell cells) (names_of_items ps ++ names_of_asked i) (cells-named script l cells there)
     (all_both P (names_of_items ps) (names_of_asked i) (items-named script l ps items) asks)))
 
-pub frame_here : (script : Tree) (l : Lists) (f : EvalFrame) → HasNames script l (names_of f) → IsHereNamed script l f.body f.cells f.pending
+pub frame_here : (script : Tree) (l : Lists) (f : Waiting) → HasNames script l (names_of_waiting f) → IsHereNamed script l f.body f.cells f.pending
 frame_here script l f h =
     let P : FrameName → Type 0 = HasName script l in
     let three : List FrameName = map NamesCell f.cells ++ (names_of_items f.pending ++ names_of_asked f.asked) in
@@ -309,7 +331,7 @@ frame_here script l f h =
       items = items-there script l f.pending (all_first P (names_of_items f.pending) (names_of_asked f.asked) last);
     }
 
-pub frame_asked : (script : Tree) (l : Lists) (f : EvalFrame) → HasNames script l (names_of f) → HasNames script l (names_of_asked f.asked)
+pub frame_asked : (script : Tree) (l : Lists) (f : Waiting) → HasNames script l (names_of_waiting f) → HasNames script l (names_of_asked f.asked)
 frame_asked script l f h =
     let P : FrameName → Type 0 = HasName script l in
     let three : List FrameName = map NamesCell f.cells ++ (names_of_items f.pending ++ names_of_asked f.asked) in
@@ -416,8 +438,8 @@ pub goes_named : (script : Tree) (l : Lists) (body : Running) (cells : List Cell
 goes_named script l body cells ps now h = record { running = h.0; there = h.1; items = h.2 }
 
 -- a step that asks
-pub asks_named : (script : Tree) (l : Lists) (body : Running) (cells : List CellNo) (ps : List Pending) (q : Request) (i : Asked) (f : EvalFrame) → f ≡ record { body = body; cells = cells; pending = ps; asked = i } →
-    IsHereNext script l body cells ps (Ok (Asks q i)) → NamesTurn script l (Ok (Ask q f))
+pub asks_named : (script : Tree) (l : Lists) (body : Running) (cells : List CellNo) (ps : List Pending) (q : Request) (i : Asked) (f : Waiting) → f ≡ record { body = body; cells = cells; pending = ps; asked = i } →
+    IsHereNext script l body cells ps (Ok (Asks q i)) → NamesTurn script l (Ok (Ask q (frame.Body f)))
 asks_named script l body cells ps q i f is h = (h.2.0, frame_named script l body cells ps i f is h.0 h.1 h.2.2 h.2.1)
 
 -- what is there stays there, whatever is answered
@@ -427,21 +449,26 @@ on_ok (Err e) X x = tt
 
 -- ---- the calls of the crate
 
--- the statements of the script
-pub begins_named : (script : Tree) (w : World) (body : Running) (cells : List CellNo) (ps : List Pending) → w.script ≡ script →
-    KeepsCurrent (context script body cells) w (At (job.Statements part_of.Script 0)) → ps ≡ [] → IsHereNamed script w.lists body cells ps
-begins_named script w body cells ps same (sound, known) empty = record {
+-- the statements of a part, with no items
+pub begins_named : (script : Tree) (w : World) (body : Running) (cells : List CellNo) (list : Part) (ps : List Pending) → w.script ≡ script →
+    KeepsCurrent (context script body cells) w (At (job.Statements list 0)) → ps ≡ [] → IsHereNamed script w.lists body cells ps
+begins_named script w body cells list ps same (sound, known) empty = record {
   running = subst (λ (s : Tree). IsKnownRunning s w.lists body) same known.0;
   there = known.1;
   items = subst (λ (xs : List Pending). NamesItems script w.lists xs) (sym empty) tt;
 }
 
--- a frame that belongs
-pub resume_named : (script : Tree) (w : World) (x f : EvalFrame) → x ≡ f → w.script ≡ script → Belongs names_of w f →
+-- a body that waits and belongs
+pub resume_named : (script : Tree) (w : World) (x f : Waiting) → x ≡ f → w.script ≡ script → Belongs names_of w (frame.Body f) →
     IsHereNamed script w.lists x.body x.cells x.pending × HasNames script w.lists (names_of_asked x.asked)
 resume_named script w x f is same h =
-    let there : HasNames script w.lists (names_of x) = subst (λ (s : Tree). HasNames s w.lists (names_of x)) same (subst (λ (y : EvalFrame). HasNames w.script w.lists (names_of y)) (sym is) h) in
+    let there : HasNames script w.lists (names_of_waiting x) = subst (λ (s : Tree). HasNames s w.lists (names_of_waiting x)) same (subst (λ (y : Waiting). HasNames w.script w.lists (names_of_waiting y)) (sym is) h) in
     (frame_here script w.lists x there, frame_asked script w.lists x there)
+
+-- a construction that waits names what it was begun with
+pub construction_named : (script : Tree) (l : Lists) (k : Construction) → top_names script ≤ length l.cells → k.function.0 < length script.functions → IsObject l k.callee → AreKnown l k.arguments → IsObject l k.target →
+    HasNames script l (names_of_construction k)
+construction_named script l k top function callee arguments target = (top, (function, (callee, (arguments, (target, tt)))))
 
 -- what was asked, in a world that a later heap stands for
 pub asked_later : (script : Tree) (a b : HeapView) (w v : World) (i : Asked) → Retains a b → StandsFor a w → StandsFor b v → HasNames script w.lists (names_of_asked i) → HasNames script v.lists (names_of_asked i)

@@ -27,6 +27,7 @@ use Rattle.evaluator.specs.Functions.{body_ended}
 use Rattle.evaluator.specs.Machine.{IsServer, current_outcome, height, meaning, pending_rest, steps_for, within}
 use Rattle.evaluator.specs.Plans.{item_program, job_program, task_of}
 use Rattle.evaluator.specs.Tasks.{node_program, round_program, statements_program}
+use Rattle.evaluator.proofs.FunctionsWithin.{body_ended-within}
 use Rattle.evaluator.proofs.ItemsWithin.{item-within}
 use Rattle.evaluator.proofs.Looped.{Stood}
 use Rattle.evaluator.proofs.TasksWithin.{node-within, round-within, statements-within}
@@ -153,8 +154,8 @@ meaning-counts here n ps now w same =
     let kept : (p : Pending) (c : Completion) (v : World) → v.script ≡ here.script → (world_of (pending_rest here job_server n p c v)).script ≡ here.script =
     λ p c v e. run-script (item_program (within here p.depth) p.item c) n v ∙ e in
     let below = unwind-counts here.script (pending_rest here job_server n) (renewed here.script) kept (rest-counts here n) ps o (1 + (2 * renewed here.script) * w.turns) (current-script here n now w same) (current-counts here n now w same) in
-    let e = spent-after here.script false 0 0 (1 + (2 * renewed here.script) * w.turns + renewed here.script * length ps) (renewed here.script) (unwind (pending_rest here job_server n) ps o) (λ c v. run job_server (body_ended c) n v)
-    (unwind-script here.script (pending_rest here job_server n) kept ps o (current-script here n now w same)) (omega arith) (λ c v e. omega arith) in omega arith
+    let e = spent-after here.script false 0 0 (1 + (2 * renewed here.script) * w.turns + renewed here.script * length ps) (renewed here.script) (unwind (pending_rest here job_server n) ps o) (λ c v. run job_server (body_ended here c) n v)
+    (unwind-script here.script (pending_rest here job_server n) kept ps o (current-script here n now w same)) (omega arith) (λ c v e. program-counts here.script (body_ended here c) 0 n v e (within-whole (renewed here.script) 0 _ (body_ended-within (renewed here.script) 0 here c))) in omega arith
 
 height-some : (ps : List Pending) (now : Current) → 0 < height ps now
 height-some ps (At j) = omega arith

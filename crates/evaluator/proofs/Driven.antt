@@ -7,15 +7,15 @@ use Rattle.es_model.specs.declared.answers.Stop.{Stop}
 use Rattle.es_model.specs.declared.answers.Stop.TheVariants.{Halted, NoMemory}
 use Rattle.es_model.specs.declared.kinds.CellNo.{CellNo}
 use Rattle.es_model.specs.declared.requests.Request.{Request}
-use Rattle.es_model.specs.Completions.{Completion, answered}
+use Rattle.es_model.specs.Completions.{Completion}
 use Rattle.es_model.specs.World.{World}
 use Rattle.es_model.specs.Program.{Program, Of, Outcome, Ended, Halt, Server, one_more, after, run}
 use Rattle.es_model.specs.Stages.{Stage, AtEnd, AtHalt, AtAsk, AtPart, AtNest, AtPrint, stage_of, outcome_at, world_at}
 use Rattle.es_model.specs.Unwinding.{Nears, Stays, unwind}
 use Rattle.es_model.proofs.Composing.{after-one_more, after-after, after-ended}
 use Rattle.es_model.proofs.StageFacts.{outcome-stage}
-use Rattle.es_model.proofs.Unwound.{unwind-none, unwind-push, unwind-one_more, unwind-after, unwind-halt, reaches_same, stays_none, stage-stays}
-use Rattle.object_heap.specs.Stands.{HeapView, StandsFor, goes_none}
+use Rattle.es_model.proofs.Unwound.{unwind-none, unwind-push, unwind-one_more, unwind-after, unwind-halt, reaches_same, stage-stays}
+use Rattle.object_heap.specs.Stands.{HeapView}
 use Rattle.evaluator.specs.declared.frames.Current.TheVariants.{At, EndedBy}
 use Rattle.evaluator.specs.declared.frames.Next.{Next}
 use Rattle.evaluator.specs.declared.frames.Next.TheVariants.{GoOn, Asks, Ends}
@@ -28,7 +28,8 @@ use Rattle.evaluator.specs.declared.items.Job.{Job}
 use Rattle.evaluator.specs.declared.items.Plan.TheVariants as plan
 use Rattle.evaluator.specs.declared.items.StatementItem.{StatementItem}
 use Rattle.evaluator.specs.Contexts.{Context, context, with_cells}
-use Rattle.evaluator.specs.Functions.{body_end, body_ended}
+use Rattle.evaluator.specs.Entering.{Answers}
+use Rattle.evaluator.specs.Functions.{body_ended}
 use Rattle.evaluator.specs.Frames.{IsStacked}
 use Rattle.evaluator.specs.Machine.{IsInner, IsNext, IsServer, height, meaning, pending_rest, unwound, within}
 use Rattle.evaluator.specs.Plans.{Plans, asked_program, ended, item_program, job_program, statement_item, task_of}
@@ -37,19 +38,19 @@ use Rattle.evaluator.specs.Plans.{Plans, asked_program, ended, item_program, job
 
 unwound-one_more : (here : Context) (S : Server) (n : ℕ) (ps : List Pending) (o : Outcome) → unwound here S n ps (one_more o) ≡ one_more (unwound here S n ps o)
 unwound-one_more here S n ps o =
-    ap (λ x. after x (λ c w. run S (body_ended c) n w)) (unwind-one_more (pending_rest here S n) ps o) ∙ after-one_more (unwind (pending_rest here S n) ps o) (λ c w. run S (body_ended c) n w)
+    ap (λ x. after x (λ c w. run S (body_ended here c) n w)) (unwind-one_more (pending_rest here S n) ps o) ∙ after-one_more (unwind (pending_rest here S n) ps o) (λ c w. run S (body_ended here c) n w)
 
 unwound-push : (here : Context) (S : Server) (n : ℕ) (ps : List Pending) (p : Pending) (o : Outcome) → unwound here S n (ps ++ p ∷ []) o ≡ unwound here S n ps (after o (pending_rest here S n p))
-unwound-push here S n ps p o = ap (λ x. after x (λ c w. run S (body_ended c) n w)) (unwind-push (pending_rest here S n) ps p o)
+unwound-push here S n ps p o = ap (λ x. after x (λ c w. run S (body_ended here c) n w)) (unwind-push (pending_rest here S n) ps p o)
 
 unwound-after : (here : Context) (S : Server) (n : ℕ) (ps : List Pending) (o : Outcome) (f : Completion → World → Outcome) →
     unwound here S n ps (after o f) ≡ after o (λ c w. unwound here S n ps (f c w))
 unwound-after here S n ps o f =
-    ap (λ x. after x (λ c w. run S (body_ended c) n w)) (unwind-after (pending_rest here S n) ps o f)
-    ∙ after-after o (λ c w. unwind (pending_rest here S n) ps (f c w)) (λ c w. run S (body_ended c) n w)
+    ap (λ x. after x (λ c w. run S (body_ended here c) n w)) (unwind-after (pending_rest here S n) ps o f)
+    ∙ after-after o (λ c w. unwind (pending_rest here S n) ps (f c w)) (λ c w. run S (body_ended here c) n w)
 
 unwound-halt : (here : Context) (S : Server) (n : ℕ) (ps : List Pending) (w : World) → unwound here S n ps (Halt w 0) ≡ Halt w 0
-unwound-halt here S n ps w = ap (λ x. after x (λ c u. run S (body_ended c) n u)) (unwind-halt (pending_rest here S n) ps w 0)
+unwound-halt here S n ps w = ap (λ x. after x (λ c u. run S (body_ended here c) n u)) (unwind-halt (pending_rest here S n) ps w 0)
 
 -- ---- the cells that waiting items see
 
@@ -81,7 +82,7 @@ unwind-same here more S n low (q ∷ qs) o h =
 
 unwound-same : (here : Context) (more : List CellNo) (S : Server) (n : ℕ) (ps : List Pending) (o : Outcome) → IsStacked 0 ps (length here.cells) →
     unwound (with_cells here (here.cells ++ more)) S n ps o ≡ unwound here S n ps o
-unwound-same here more S n ps o h = ap (λ x. after x (λ c w. run S (body_ended c) n w)) (unwind-same here more S n 0 ps o h)
+unwound-same here more S n ps o h = ap (λ x. after x (λ c w. run S (body_ended here c) n w)) (unwind-same here more S n 0 ps o h)
 
 -- ---- an inner scope
 
@@ -282,15 +283,16 @@ item_stops x here inner S n w ps qs p e a b stop s high h =
     (stop_next x cut inner cut S n a b w (stage_of (item_program cut p.item (ended e)) w) ps qs stop h (stage-stays (item_program cut p.item (ended e)) w))
 
 -- an end with no item that waits, which is the body's, and one with an item
-pub end_step : (here : Context) (S : Server) (n : ℕ) (heap : HeapView) (w : World) (ps qs : List Pending) (e : Ending) (answer : Answer) → length ps ≡ 0 → answered answer ≡ body_end (ended e) →
-    StandsFor heap w → IsNext here S n (length ps + 1) (meaning here S n ps (EndedBy e) w) heap heap w qs (Ok (Ends answer))
-end_step here S n heap w [] qs e answer none is h = (
-  w,
-  goes_none heap w h,
-  stays_none w,
-  reaches_same _ _ (ap (λ x. after x (λ c u. run S (body_ended c) n u)) (unwind-none (pending_rest here S n) (Ended (ended e) w 0)) ∙ ap (λ c. Ended c w 0) (sym is)),
-)
-end_step here S n heap w (p ∷ ps) qs e answer none is h = absurd (omega arith)
+pub end_step : (here : Context) (S : Server) (n : ℕ) (a b : HeapView) (w : World) (ps qs : List Pending) (e : Ending) (answer : Answer) → length ps ≡ 0 → Answers a b w (body_ended here (ended e)) answer →
+    IsNext here S n (length ps + 1) (meaning here S n ps (EndedBy e) w) a b w qs (Ok (Ends answer))
+end_step here S n a b w [] qs e answer none (v, g, at) =
+    let p : Program = body_ended here (ended e) in (
+      v,
+      g,
+      subst (λ s. Stays w (world_at s)) at (stage-stays p w),
+      reaches_same _ _ (ap (λ x. after x (λ c u. run S (body_ended here c) n u)) (unwind-none (pending_rest here S n) (Ended (ended e) w 0)) ∙ (outcome-stage S n p w ∙ ap (outcome_at S n) at)),
+    )
+end_step here S n a b w (p ∷ ps) qs e answer none h = absurd (omega arith)
 
 -- the item that the newest end wakes, and those below it
 pub popped_stack : (fs ps : List Pending) (p : Pending) (high : ℕ) → fs ≡ ps ++ p ∷ [] → IsStacked 0 fs high → IsStacked 0 ps p.depth × (p.depth ≤ high)

@@ -26,7 +26,7 @@ use Rattle.es_model.specs.Objects.{new_object_of}
 use Rattle.es_model.specs.World.{Lists, World, new_object}
 use Rattle.es_model.specs.Changes.{Change, Defining, Making, changed, made, with_objects}
 use Rattle.es_model.specs.Program.{Program}
-use Rattle.es_model.specs.Known.{IsObject, IsKnown, IsKnownKey, IsKnownDescriptor}
+use Rattle.es_model.specs.Known.{IfThere, IsObject, IsText, IsKnown, IsKnownKey, IsKnownDescriptor}
 use Rattle.es_model.specs.Sound.{IsSound}
 use Rattle.es_model.specs.Kept.{IsLater}
 use Rattle.es_model.proofs.Keeping.{later_none, later_then}
@@ -39,6 +39,7 @@ use Rattle.evaluator.specs.Literals.{getter, key_converted, key_valued, literal_
 use Rattle.evaluator.specs.References.{prototype_of}
 use Rattle.evaluator.specs.Values.{whole_of}
 use Rattle.evaluator.proofs.AccessesKept.{key_asked-kept, read_reference-kept}
+use Rattle.evaluator.proofs.FunctionsKept.{make_function-kept}
 use Rattle.evaluator.proofs.ReferencesKept.{get_value-kept, resolve-kept}
 use Rattle.evaluator.proofs.WordsKept.{Keeps, done-kept, look-kept, change-kept, IsHere, OnEnd, OnKey, OnText, Onward, asked-kept, evaluated-kept, flag-kept, here-stays, kept-if, key-kept, key-stays, object-stays, onward-stays, or_out-kept, text-kept, value-kept, whole-known, with_key-kept}
 
@@ -160,14 +161,14 @@ object-kept w here n literal s h =
 
 -- ---- each primary expression
 
-pub primary-kept : (w : World) (here : Context) (name : Option TextId) (n : NodeId) (p : Primary) → IsSound w → IsHere w here → Keeps (primary_program here name n p) w
-primary-kept w here name n primary.This s h = done-kept w _ s h.0.this
-primary-kept w here name n (primary.Name named) s h = resolve-kept w here named (read_reference here) s h (λ ref v sv l known. read_reference-kept v here ref sv known)
-primary-kept w here name n (primary.Number x) s h = or_out-kept w (whole_of x) _ s (whole-known x) (λ m whole. (done-kept w _ s whole))
-primary-kept w here name n (primary.Text units) s h = text-kept w units _ s (λ t v sv l known. done-kept v (normal (value.Text t)) sv known)
-primary-kept w here name n primary.Null s h = done-kept w _ s tt
-primary-kept w here name n (primary.Bool x) s h = done-kept w _ s tt
-primary-kept w here name n (primary.Array elements) s h = done-kept w _ s tt
-primary-kept w here name n (primary.Object literal properties) s h = object-kept w here n literal s h
-primary-kept w here name n (primary.Function f) s h = done-kept w _ s tt
-primary-kept w here name n (primary.Method f) s h = done-kept w _ s tt
+pub primary-kept : (w : World) (here : Context) (name : Option TextId) (n : NodeId) (p : Primary) → IsSound w → IsHere w here → IfThere (IsText w.lists) name → Keeps (primary_program here name n p) w
+primary-kept w here name n primary.This s h known = done-kept w _ s h.0.this
+primary-kept w here name n (primary.Name named) s h known = resolve-kept w here named (read_reference here) s h (λ ref v sv l there. read_reference-kept v here ref sv there)
+primary-kept w here name n (primary.Number x) s h known = or_out-kept w (whole_of x) _ s (whole-known x) (λ m whole. (done-kept w _ s whole))
+primary-kept w here name n (primary.Text units) s h known = text-kept w units _ s (λ t v sv l there. done-kept v (normal (value.Text t)) sv there)
+primary-kept w here name n primary.Null s h known = done-kept w _ s tt
+primary-kept w here name n (primary.Bool x) s h known = done-kept w _ s tt
+primary-kept w here name n (primary.Array elements) s h known = done-kept w _ s tt
+primary-kept w here name n (primary.Object literal properties) s h known = object-kept w here n literal s h
+primary-kept w here name n (primary.Function f) s h known = make_function-kept w here name f s h known
+primary-kept w here name n (primary.Method f) s h known = make_function-kept w here name f s h known

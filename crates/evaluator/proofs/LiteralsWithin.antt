@@ -26,6 +26,7 @@ use Rattle.evaluator.specs.Contexts.{Context, normal}
 use Rattle.evaluator.specs.Literals.{getter, key_converted, key_valued, method_keyed, object_literal, plain, primary_program, properties_from, properties_in, property_key, property_then, property_valued, proto_answered, proto_of, proto_valued, setter, shorthand_keyed, value_keyed, with_name}
 use Rattle.evaluator.specs.Values.{whole_of}
 use Rattle.evaluator.proofs.AccessesWithin.{read_reference-within}
+use Rattle.evaluator.proofs.FunctionsWithin.{make_function-within}
 use Rattle.evaluator.proofs.ReferencesWithin.{get_value-within, resolve-within}
 use Rattle.evaluator.proofs.WordsWithin.{On, Within, asked-within, change-within, cond-within, done-within, evaluated-within, flag-within, key-within, look-within, more-within, or_out-within, text-within, value-within, with_key-within}
 
@@ -142,5 +143,5 @@ primary-within r here name n primary.Null enough = done-within _ _ _
 primary-within r here name n (primary.Bool x) enough = done-within _ _ _
 primary-within r here name n (primary.Array elements) enough = done-within _ _ _
 primary-within r here name n (primary.Object literal properties) enough = object-within r here n literal (omega arith)
-primary-within r here name n (primary.Function f) enough = done-within _ _ _
-primary-within r here name n (primary.Method f) enough = done-within _ _ _
+primary-within r here name n (primary.Function f) enough = make_function-within r r here name f
+primary-within r here name n (primary.Method f) enough = make_function-within r r here name f

@@ -21,11 +21,13 @@ use Rattle.object_heap.specs.Turns.{IsTurnOf}
 use Rattle.evaluator.specs.declared.frames.Current.{Current}
 use Rattle.evaluator.specs.declared.frames.Current.TheVariants.{At, EndedBy}
 use Rattle.evaluator.specs.declared.frames.EvalFrame.{EvalFrame}
+use Rattle.evaluator.specs.declared.frames.EvalFrame.TheVariants as frame
 use Rattle.evaluator.specs.declared.frames.Next.{Next}
 use Rattle.evaluator.specs.declared.frames.Next.TheVariants.{GoOn, Asks, Ends}
 use Rattle.evaluator.specs.declared.frames.Pending.{Pending}
 use Rattle.evaluator.specs.declared.items.Asked.{Asked}
 use Rattle.evaluator.specs.Contexts.{Context, context}
+use Rattle.evaluator.specs.Frames.{Waiting}
 use Rattle.evaluator.specs.Machine.{IsNext, eval_rest, height, meaning, unwound}
 use Rattle.evaluator.specs.Plans.{Plans, asked_program}
 use Rattle.evaluator.proofs.Driven.{stop_next}
@@ -66,12 +68,12 @@ stood_on left less most script body S n a b c w cells ps now cells1 cells2 ps1 p
     )
 
 -- a frame that waits stands for what is left
-pub frame_turn : (script : Tree) (body : Running) (S : Server) (n : ℕ) (a c : HeapView) (w : World) (o : Outcome) (cells : List CellNo) (ps : List Pending) (q : Request) (i : Asked) (f : EvalFrame) →
+pub frame_turn : (script : Tree) (body : Running) (S : Server) (n : ℕ) (a c : HeapView) (w : World) (o : Outcome) (cells : List CellNo) (ps : List Pending) (q : Request) (i : Asked) (f : Waiting) →
     f ≡ record { body = body; cells = cells; pending = ps; asked = i } →
     ((v : World) × Goes a c w v × Stays w v
     × Reaches o (one_more (after (S n (Of q) v) (λ d u. unwound (context script body cells) S n ps (run S (asked_program (context script body cells) i d) n u))))) →
-    IsTurnOf (eval_rest script) a c w S n o (Ok (Ask q f))
-frame_turn script body S n a c w o cells ps q i f is h = subst (λ x. IsTurnOf (eval_rest script) a c w S n o (Ok (Ask q x))) (sym is) h
+    IsTurnOf (eval_rest script) a c w S n o (Ok (Ask q (frame.Body f)))
+frame_turn script body S n a c w o cells ps q i f is h = subst (λ x. IsTurnOf (eval_rest script) a c w S n o (Ok (Ask q (frame.Body x)))) (sym is) h
 
 -- ---- a turn after another call, and after some parts
 

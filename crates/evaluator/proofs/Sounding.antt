@@ -1,10 +1,11 @@
 -- The machine keeps worlds sound, over plain variables.
-use Rattle.std.proofs.Common.{◌≡◌, ℕ, ◌≤◌, nat_le, Bool, true, false, cond, if◌then◌else◌, List, [], ◌∷◌, ◌++◌, length, take, drop, Some, None, Result, Ok, Err, sym, ◌∙◌, ap, subst}
+use Rattle.std.proofs.Common.{◌≡◌, ℕ, ◌≤◌, Bool, true, List, [], ◌∷◌, ◌++◌, length, take, drop, Option, Some, None, Result, Ok, Err, refl, sym, ◌∙◌, ap, subst}
+use Rattle.std.specs.Prelude.{is_some}
 use Rattle.std.proofs.Math.Seq.{take-length}
 use Rattle.std.proofs.lemmas.List.{take-append-le, take-append-drop, length-take-le}
-use Rattle.property_keys.specs.declared.values.Value.{Value}
-use Rattle.es_tree.specs.declared.body.DeclaredFunction.{DeclaredFunction}
-use Rattle.es_tree.specs.Tree.{Tree, top_names}
+use Rattle.property_keys.specs.declared.identifiers.ObjectId.{ObjectId}
+use Rattle.es_tree.specs.declared.facts.FunctionFacts.{FunctionFacts}
+use Rattle.es_tree.specs.Tree.{Tree}
 use Rattle.es_model.specs.declared.answers.Completion.{Completion as Answer}
 use Rattle.es_model.specs.declared.answers.Stop.{Stop}
 use Rattle.es_model.specs.declared.answers.Stop.TheVariants.{Halted, NoMemory}
@@ -12,25 +13,24 @@ use Rattle.es_model.specs.declared.answers.Turn.{Turn}
 use Rattle.es_model.specs.declared.answers.Turn.TheVariants.{Ask, Done}
 use Rattle.es_model.specs.declared.kinds.CellNo.{CellNo}
 use Rattle.es_model.specs.declared.requests.Request.{Request}
-use Rattle.es_model.specs.declared.requests.Request.TheVariants.{Call}
-use Rattle.es_model.specs.declared.answers.Reply.TheVariants as reply
-use Rattle.es_model.specs.declared.running.Part.TheVariants as part_of
 use Rattle.es_model.specs.declared.running.Running.{Running}
-use Rattle.es_model.specs.Completions.{Completion, Normal, Break, Continue, Return, Throw, answered}
+use Rattle.es_model.specs.Completions.{Completion, answered}
 use Rattle.es_model.specs.Fits.{Fits, IsKnownCompletion, IsKnownRequest}
-use Rattle.es_model.specs.Kept.{AreCells, FitsTask, IsKept, IsKnownRunning, IsKnownTask, IsLater}
-use Rattle.es_model.specs.Changes.{charged}
-use Rattle.es_model.specs.Program.{Program, charge, part, Statements, Task}
-use Rattle.es_model.specs.programs.Errors.{unwritten}
+use Rattle.es_model.specs.Kept.{FitsTask, IsKept, IsKnownTask, IsLater}
+use Rattle.es_model.specs.Known.{IfThere, IsObject}
+use Rattle.es_model.specs.Program.{Program, done, part, Task}
 use Rattle.es_model.specs.Sound.{IsSound}
 use Rattle.es_model.specs.Stages.{Stage, AtEnd, AtHalt, AtAsk, AtPart, AtNest, AtPrint, stage_of, world_at}
 use Rattle.es_model.specs.World.{Lists, World}
 use Rattle.es_model.proofs.Keeping.{later_none, later_then}
+use Rattle.es_model.proofs.KnownLater.{there-map, object-later}
 use Rattle.object_heap.specs.Stands.{HeapView, StandsFor, Goes, goes_none, goes_then, halts_then}
+use Rattle.function_objects.proofs.Constructed.{noted_kept}
 use Rattle.object_heap.proofs.Turns.{IsKeptStage, kept_stage, later_stage}
 use Rattle.evaluator.specs.declared.frames.Current.{Current}
 use Rattle.evaluator.specs.declared.frames.Current.TheVariants.{At, EndedBy}
 use Rattle.evaluator.specs.declared.frames.EvalFrame.{EvalFrame}
+use Rattle.evaluator.specs.declared.frames.EvalFrame.TheVariants as frame
 use Rattle.evaluator.specs.declared.frames.Next.{Next}
 use Rattle.evaluator.specs.declared.frames.Next.TheVariants.{GoOn, Asks, Ends}
 use Rattle.evaluator.specs.declared.frames.Pending.{Pending}
@@ -43,20 +43,24 @@ use Rattle.evaluator.specs.declared.items.Job.TheVariants as job
 use Rattle.evaluator.specs.declared.items.Plan.TheVariants as plan
 use Rattle.evaluator.specs.declared.items.StatementItem.{StatementItem}
 use Rattle.evaluator.specs.Contexts.{Context, context, with_cells}
-use Rattle.evaluator.specs.Frames.{IsStacked}
-use Rattle.evaluator.specs.Functions.{body_end, body_ended, declare_functions, script_body, script_program}
-use Rattle.evaluator.specs.Machine.{Declares, IsInner, within}
+use Rattle.evaluator.specs.Entering.{Answers}
+use Rattle.evaluator.specs.Frames.{IsStacked, Waiting}
+use Rattle.evaluator.specs.Functions.{body_ended, constructed_end, ended_by, facts_of, note_by}
+use Rattle.evaluator.specs.Machine.{IsInner, within}
 use Rattle.evaluator.specs.Plans.{Plans, ended, item_program, job_program, statement_item, task_of}
-use Rattle.evaluator.specs.Scopes.{world_with}
-use Rattle.evaluator.specs.Soundness.{KeepsAsked, KeepsCurrent, KeepsFrame, KeepsItem, KeepsItems, IsKnownEnd, KeepsRest, StaysSoundNext, StaysSoundTurn}
+use Rattle.evaluator.specs.Soundness.{FitsEnd, KeepsAsked, KeepsCurrent, KeepsFrame, KeepsItem, KeepsItems, KeepsRest, StaysSoundNext, StaysSoundTurn}
 use Rattle.evaluator.proofs.Driven.{grown, outside, stacked-low}
-use Rattle.evaluator.proofs.Started.{rest_of, script-stage, top_of}
-use Rattle.evaluator.proofs.TasksKept.{node-kept, round-kept, script-kept, script-running, statements-kept}
+use Rattle.evaluator.proofs.FunctionsKept.{body_end_known, constructed_end_known}
+use Rattle.evaluator.proofs.TasksKept.{node-kept, round-kept, statements-kept}
+use Rattle.evaluator.proofs.WordsKept.{completion-stays, object-stays}
 
 -- ---- the items in later worlds, and with other cells behind those that they see
 
+made-later : (w v : World) (made : Option ObjectId) → IsLater w v → IfThere (IsObject w.lists) made → IfThere (IsObject v.lists) made
+made-later w v made l h = there-map (IsObject w.lists) (IsObject v.lists) (object-later w.lists v.lists l.lists) made h
+
 pub items_later : (here : Context) (w v : World) (ps : List Pending) → IsLater w v → KeepsItems here w ps → KeepsItems here v ps
-items_later here w v [] l h = tt
+items_later here w v [] l h = made-later w v here.body.constructs l h
 items_later here w v (p ∷ ps) l h = (λ c u s later known. h.0 c u s (later_then w v u l later) known, items_later here w v ps l h.1)
 
 -- what an item sees with more cells behind
@@ -64,14 +68,14 @@ sees-same : (here : Context) (more : List CellNo) (depth : ℕ) → depth ≤ le
 sees-same here more depth low = ap (with_cells here) (take-append-le depth here.cells more low)
 
 items-more : (here : Context) (more : List CellNo) (v : World) (low : ℕ) (ps : List Pending) → IsStacked low ps (length here.cells) → KeepsItems here v ps → KeepsItems (with_cells here (here.cells ++ more)) v ps
-items-more here more v low [] s h = tt
+items-more here more v low [] s h = h
 items-more here more v low (p ∷ ps) s h = (
   λ c u su later known. subst (λ x. IsKept IsKnownCompletion (item_program x p.item c) u) (sym (sees-same here more p.depth (stacked-low p.depth ps (length here.cells) s.1))) (h.0 c u su later known),
   items-more here more v p.depth ps s.1 h.1,
 )
 
 items-fewer : (here : Context) (more : List CellNo) (v : World) (low : ℕ) (ps : List Pending) → IsStacked low ps (length here.cells) → KeepsItems (with_cells here (here.cells ++ more)) v ps → KeepsItems here v ps
-items-fewer here more v low [] s h = tt
+items-fewer here more v low [] s h = h
 items-fewer here more v low (p ∷ ps) s h = (
   λ c u su later known. subst (λ x. IsKept IsKnownCompletion (item_program x p.item c) u) (sees-same here more p.depth (stacked-low p.depth ps (length here.cells) s.1)) (h.0 c u su later known),
   items-fewer here more v p.depth ps s.1 h.1,
@@ -102,7 +106,7 @@ item-waits inner v t k j rest is same h c u s later known =
     subst (λ (f : Completion → Program). IsKept IsKnownCompletion (f c) u) (sym same) (h.2 c u s later (subst (λ x. FitsTask x u.lists c) is (fits-job inner j u.lists c known)))
 
 items-push : (here : Context) (v : World) (ps : List Pending) (p : Pending) → KeepsItems here v ps → KeepsItem here v p → KeepsItems here v (ps ++ p ∷ [])
-items-push here v [] p h k = (k, tt)
+items-push here v [] p h k = (k, h)
 items-push here v (q ∷ qs) p h k = (h.0, items-push here v qs p h.1 k)
 
 -- the items below, in the world after a plan and with the cells that are in force then
@@ -200,24 +204,36 @@ pub item_kept : (here : Context) (w : World) (p : Pending) (e : Ending) → Keep
 item_kept here w p e h k = h (ended e) w k.0 (later_none w) k.1
 
 items-popped : (here : Context) (v : World) (ps : List Pending) (p : Pending) → KeepsItems here v (ps ++ p ∷ []) → KeepsItems here v ps × KeepsItem here v p
-items-popped here v [] p h = (tt, h.0)
+items-popped here v [] p h = (h.1, h.0)
 items-popped here v (q ∷ qs) p h = let r = items-popped here v qs p h.1 in ((h.0, r.0), r.1)
 
 pub items_popped : (here : Context) (v : World) (fs ps : List Pending) (p : Pending) → fs ≡ ps ++ p ∷ [] → KeepsItems here v fs → KeepsItems here v ps × KeepsItem here v p
 items_popped here v fs ps p popped h = items-popped here v ps p (subst (λ l. KeepsItems here v l) popped h)
 
--- what a body ends with
-end-known : (l : Lists) (c : Completion) → IsKnownCompletion l c → IsKnownEnd l (body_end c)
-end-known l (Normal r) h = tt
-end-known l Break h = tt
-end-known l Continue h = tt
-end-known l (Return v) h = h
-end-known l (Throw v) h = h
+-- at the bottom of the items, the object that a constructor makes
+items-bottom : (here : Context) (v : World) (ps : List Pending) → KeepsItems here v ps → IfThere (IsObject v.lists) here.body.constructs
+items-bottom here v [] h = h
+items-bottom here v (p ∷ ps) h = items-bottom here v ps h.1
+
+note-kept : (constructs : Bool) (w : World) (script : Tree) (facts : Option FunctionFacts) (c : Completion) → IsSound w → ((v : World) → IsLater w v → FitsEnd constructs v.lists c) → IsKept (FitsEnd constructs) (note_by script facts (done c)) w
+note-kept constructs w script None c s fits = (s, fits w (later_none w))
+note-kept constructs w script (Some facts) c s fits = noted_kept (FitsEnd constructs) script facts (done c) w s (λ u su l. (su, fits u l))
+
+end-kept : (w : World) (script : Tree) (body : Running) (made : Option ObjectId) (c : Completion) → IsSound w → IsKnownCompletion w.lists c → IfThere (IsObject w.lists) made → IsKept (FitsEnd (is_some made)) (ended_by script body made c) w
+end-kept w script body None c s known there = (s, body_end_known w.lists c known)
+end-kept w script body (Some o) c s known there =
+    note-kept true w script (facts_of script body.function) (constructed_end o c) s (λ v l. constructed_end_known v.lists o c (object-stays w v l o there) (completion-stays w v l c known))
 
 -- an end with no item that waits
-pub body_sound : (here : Context) (heap : HeapView) (w : World) (ps : List Pending) (e : Ending) (answer : Answer) → answered answer ≡ body_end (ended e) → StandsFor heap w → KeepsCurrent here w (EndedBy e) →
-    StaysSoundNext here heap heap w ps (Ok (Ends answer))
-body_sound here heap w ps e answer is h k = (w, goes_none heap w h, later_none w, k.0, subst (λ x. IsKnownEnd w.lists x) (sym is) (end-known w.lists (ended e) k.1))
+pub body_sound : (here : Context) (a b : HeapView) (w : World) (ps qs : List Pending) (e : Ending) (answer : Answer) → Answers a b w (body_ended here (ended e)) answer → KeepsCurrent here w (EndedBy e) → KeepsItems here w ps →
+    StaysSoundNext here a b w qs (Ok (Ends answer))
+body_sound here a b w ps qs e answer (v, g, at) k items =
+    let p : Program = body_ended here (ended e) in
+    let P : Lists → Completion → Type 0 = FitsEnd (is_some here.body.constructs) in
+    let kept : IsKept P p w = end-kept w here.script here.body here.body.constructs (ended e) k.0 k.1 (items-bottom here w ps items) in
+    let stage : IsKeptStage P (AtEnd (answered answer) v) = subst (IsKeptStage P) at (kept_stage P p w kept) in
+    let later : IsLater w v = subst (λ s. IsLater w (world_at s)) at (later_stage p w) in
+    (v, g, later, stage.0, stage.1)
 
 -- ---- the loop
 
@@ -240,111 +256,30 @@ sound_on script body a b c w cells1 cells2 ps1 ps2 now1 result next same (v, g, 
     sound-then (context script body cells2) a b c w v ps2 next g l (subst (λ x. StaysSoundNext (context script body cells2) b c v ps2 x) is (step v (l.script ∙ same) g.stands k items))
 
 -- a frame that waits keeps what was asked and the items
-pub sound_asks : (script : Tree) (body : Running) (a b : HeapView) (w : World) (cells : List CellNo) (ps : List Pending) (q : Request) (i : Asked) (f : EvalFrame) →
-    f ≡ record { body = body; cells = cells; pending = ps; asked = i } → StaysSoundNext (context script body cells) a b w ps (Ok (Asks q i)) → StaysSoundTurn script a b w (Ok (Ask q f))
-sound_asks script body a b w cells ps q i f is (v, g, l, s, known, asks, items) = subst (λ x. StaysSoundTurn script a b w (Ok (Ask q x))) (sym is) (v, g, l, s, known, (asks, items))
+pub sound_asks : (script : Tree) (body : Running) (a b : HeapView) (w : World) (cells : List CellNo) (ps : List Pending) (q : Request) (i : Asked) (f : Waiting) →
+    f ≡ record { body = body; cells = cells; pending = ps; asked = i } → StaysSoundNext (context script body cells) a b w ps (Ok (Asks q i)) → StaysSoundTurn (is_some body.constructs) script a b w (Ok (Ask q (frame.Body f)))
+sound_asks script body a b w cells ps q i f is (v, g, l, s, known, asks, items) =
+    subst (λ x. StaysSoundTurn (is_some body.constructs) script a b w (Ok (Ask q (frame.Body x)))) (sym is) (v, g, l, s, known, (asks, items), refl)
 
-pub sound_stops : (script : Tree) (here : Context) (a b : HeapView) (w : World) (ps : List Pending) (stop : Stop) → StaysSoundNext here a b w ps (Err stop) → StaysSoundTurn script a b w (Err stop)
-sound_stops script here a b w ps Halted h = h
-sound_stops script here a b w ps NoMemory h = tt
+pub sound_stops : (constructs : Bool) (script : Tree) (here : Context) (a b : HeapView) (w : World) (ps : List Pending) (stop : Stop) → StaysSoundNext here a b w ps (Err stop) → StaysSoundTurn constructs script a b w (Err stop)
+sound_stops constructs script here a b w ps Halted h = h
+sound_stops constructs script here a b w ps NoMemory h = tt
 
 -- ---- a turn after a step
 
-turn-then : (script : Tree) (a b c : HeapView) (w v : World) (result : Result (Turn EvalFrame) Stop) → Goes a b w v → IsLater w v → StaysSoundTurn script b c v result → StaysSoundTurn script a c w result
-turn-then script a b c w v (Ok (Done d)) g l (u, h, m, s, known) = (u, goes_then a b c w v u g h, later_then w v u l m, s, known)
-turn-then script a b c w v (Ok (Ask q f)) g l (u, h, m, s, known, frame) = (u, goes_then a b c w v u g h, later_then w v u l m, s, known, frame)
-turn-then script a b c w v (Err Halted) g l (u, h, m, i) = (u, halts_then a b c w v u g h, later_then w v u l m, i)
-turn-then script a b c w v (Err NoMemory) g l h = tt
+pub sound_turn_then : (constructs : Bool) (script : Tree) (a b c : HeapView) (w v : World) (result : Result (Turn EvalFrame) Stop) → Goes a b w v → IsLater w v → StaysSoundTurn constructs script b c v result →
+    StaysSoundTurn constructs script a c w result
+sound_turn_then constructs script a b c w v (Ok (Done d)) g l (u, h, m, s, known) = (u, goes_then a b c w v u g h, later_then w v u l m, s, known)
+sound_turn_then constructs script a b c w v (Ok (Ask q f)) g l (u, h, m, s, known, kept, same) = (u, goes_then a b c w v u g h, later_then w v u l m, s, known, kept, same)
+sound_turn_then constructs script a b c w v (Err Halted) g l (u, h, m, i) = (u, halts_then a b c w v u g h, later_then w v u l m, i)
+sound_turn_then constructs script a b c w v (Err NoMemory) g l h = tt
 
-pub sound_goes : (script : Tree) (here : Context) (a b c : HeapView) (w : World) (ps : List Pending) (now : Current) (result : Result (Turn EvalFrame) Stop) → w.script ≡ script → StaysSoundNext here a b w ps (Ok (GoOn now)) →
-    ((v : World) → v.script ≡ script → StandsFor b v → KeepsCurrent here v now → KeepsItems here v ps → StaysSoundTurn script b c v result) → StaysSoundTurn script a c w result
-sound_goes script here a b c w ps now result same (v, g, l, k, items) next = turn-then script a b c w v result g l (next v (l.script ∙ same) g.stands k items)
+pub sound_goes : (constructs : Bool) (script : Tree) (here : Context) (a b c : HeapView) (w : World) (ps : List Pending) (now : Current) (result : Result (Turn EvalFrame) Stop) → w.script ≡ script →
+    StaysSoundNext here a b w ps (Ok (GoOn now)) →
+    ((v : World) → v.script ≡ script → StandsFor b v → KeepsCurrent here v now → KeepsItems here v ps → StaysSoundTurn constructs script b c v result) → StaysSoundTurn constructs script a c w result
+sound_goes constructs script here a b c w ps now result same (v, g, l, k, items) next = sound_turn_then constructs script a b c w v result g l (next v (l.script ∙ same) g.stands k items)
 
 -- an answer that fits, in a later sound world, goes on with a frame
 pub frame_goes_on : (script : Tree) (v : World) (q : Request) (f : EvalFrame) → KeepsFrame script v q f → (c : Completion) (u : World) → IsSound u → IsLater v u → Fits u.lists q c → KeepsRest script u f c
-frame_goes_on script v q f h c u s l fits = (h.0 c u s l fits, items_later (context script f.body f.cells) v u f.pending l h.1)
-
-pub end_fits : (l : Lists) (f this : Value) (arguments : List Value) (c : Completion) → IsKnownEnd l c → Fits l (Call f this arguments) c
-end_fits l f this arguments (Normal (reply.Value v)) h = (tt, h)
-end_fits l f this arguments (Throw v) h = h
-end_fits l f this arguments (Normal (reply.Flag b)) h = absurd h
-end_fits l f this arguments (Normal (reply.Property p)) h = absurd h
-end_fits l f this arguments (Normal (reply.Keys ks)) h = absurd h
-end_fits l f this arguments (Normal (reply.Key k)) h = absurd h
-end_fits l f this arguments (Normal (reply.Proto p)) h = absurd h
-end_fits l f this arguments (Normal (reply.List vs)) h = absurd h
-end_fits l f this arguments (Normal (reply.Wanted d)) h = absurd h
-end_fits l f this arguments Break h = absurd h
-end_fits l f this arguments Continue h = absurd h
-end_fits l f this arguments (Return v) h = absurd h
-
--- ---- the start of a script
-
-script-stopped : (script : Tree) (w : World) (s : Stage) → w.script ≡ script → IsSound w → stage_of (script_program script) w ≡ s → IsLater w (world_at s) × IsKeptStage IsKnownCompletion s
-script-stopped script w s same sound e =
-    let kept : IsKept IsKnownCompletion (script_program script) w = subst (λ t. IsKept IsKnownCompletion (script_program t) w) same (script-kept w sound) in
-    subst (λ x. IsLater w (world_at x) × IsKeptStage IsKnownCompletion x) e (later_stage (script_program script) w, kept_stage IsKnownCompletion (script_program script) w kept)
-
--- a stage, where it is an end, is that of a body
-abbrev EndsBody : Stage → Type 0
-EndsBody (AtEnd c v) = IsKnownEnd v.lists c
-EndsBody other = Unit {0}
-
-made-charged : (fits : Bool) (v w : World) → EndsBody (cond fits (stage_of unwritten v) (AtHalt w))
-made-charged true v w = tt
-made-charged false v w = tt
-
-made-first : (is_last : Bool) (p : Program) (w : World) → EndsBody (stage_of p w) → EndsBody (stage_of (if is_last then charge 1 unwritten else p) w)
-made-first true p w h = made-charged (nat_le 1 w.turns) (charged w 1) w
-made-first false p w h = h
-
--- the declared function that is made throws undefined
-made-ends : (here : Context) (ds : List DeclaredFunction) (w : World) → EndsBody (stage_of (declare_functions here ds unwritten) w)
-made-ends here [] w = tt
-made-ends here (d ∷ ds) w = made-first d.is_last (declare_functions here ds unwritten) w (made-ends here ds w)
-
--- the world in which the statements begin is sound
-pub script_ready : (script : Tree) (b c : HeapView) (w : World) → w.script ≡ script → IsSound w → Declares (top_of script w) script.script.declared b c (world_with (top_names script) w) (Ok None) →
-    IsSound (world_with (top_names script) w) × ((world_with (top_names script) w).script ≡ script)
-script_ready script b c w same sound declares =
-    let v : World = world_with (top_names script) w in
-    let at : stage_of (script_program script) w ≡ AtPart (Statements (script_body script) [] part_of.Script 0) body_ended v = script-stage script w ∙ ap (λ p. stage_of p v) (declares.1 (rest_of script)) in
-    let s = script-stopped script w _ same sound at in (s.1.0, s.0.script ∙ same)
-
-pub script_begins_sound : (script : Tree) (a b c d : HeapView) (w : World) (result : Result (Turn EvalFrame) Stop) → w.script ≡ script → IsSound w → Goes a b w (world_with (top_names script) w) →
-    Declares (top_of script w) script.script.declared b c (world_with (top_names script) w) (Ok None) →
-    ((v : World) → v.script ≡ script → StandsFor c v → IsSound v → StaysSoundTurn script c d v result) → StaysSoundTurn script a d w result
-script_begins_sound script a b c d w result same sound g declares next =
-    let v : World = world_with (top_names script) w in
-    let at : stage_of (script_program script) w ≡ AtPart (Statements (script_body script) [] part_of.Script 0) body_ended v = script-stage script w ∙ ap (λ p. stage_of p v) (declares.1 (rest_of script)) in
-    let s = script-stopped script w _ same sound at in
-    let on = goes_then a b c w v v g declares.0 in turn-then script a c d w v result on s.0 (next v (s.0.script ∙ same) on.stands s.1.0)
-
-pub script_ends_sound : (script : Tree) (a b c : HeapView) (w : World) (end : Answer) → w.script ≡ script → IsSound w → Goes a b w (world_with (top_names script) w) →
-    Declares (top_of script w) script.script.declared b c (world_with (top_names script) w) (Ok (Some end)) → StaysSoundTurn script a c w (Ok (Done end))
-script_ends_sound script a b c w end same sound g (v, h, e) =
-    let at : stage_of (script_program script) w ≡ AtEnd (answered end) v = script-stage script w ∙ e (rest_of script) in
-    let s = script-stopped script w _ same sound at in
-    let thrown : IsKnownEnd v.lists (answered end) = subst EndsBody (e unwritten) (made-ends (top_of script w) script.script.declared (world_with (top_names script) w)) in
-    (v, goes_then a b c w (world_with (top_names script) w) v g h, s.0, s.1.0, thrown)
-
-pub script_stops_sound : (script : Tree) (a b c : HeapView) (w : World) (stop : Stop) → w.script ≡ script → IsSound w → Goes a b w (world_with (top_names script) w) →
-    Declares (top_of script w) script.script.declared b c (world_with (top_names script) w) (Err stop) → StaysSoundTurn script a c w (Err stop)
-script_stops_sound script a b c w NoMemory same sound g h = tt
-script_stops_sound script a b c w Halted same sound g (v, h, e) =
-    let at : stage_of (script_program script) w ≡ AtHalt v = script-stage script w ∙ e (rest_of script) in
-    let s = script-stopped script w _ same sound at in (v, halts_then a b c w (world_with (top_names script) w) v g h, s.0, s.1)
-
--- the statements of the script name what is there, with no cells and no items
-pub begins_known : (script : Tree) (w : World) (body : Running) (cells : List CellNo) → body ≡ script_body script → cells ≡ [] → w.script ≡ script → IsSound w →
-    KeepsCurrent (context script body cells) w (At (job.Statements part_of.Script 0))
-begins_known script w body cells is none same sound =
-    let running : IsKnownRunning w.script w.lists body = subst (λ x. IsKnownRunning w.script w.lists x) (ap script_body same ∙ sym is) (script-running w sound) in
-    let there : AreCells w.lists cells = subst (λ x. AreCells w.lists x) (sym none) tt in (sound, (running, there))
-
-pub no_items : (here : Context) (w : World) (ps : List Pending) → ps ≡ [] → KeepsItems here w ps
-no_items here w ps empty = subst (λ l. KeepsItems here w l) (sym empty) tt
-
--- a call that is not written yet throws
-pub thrown_sound : (script : Tree) (a : HeapView) (w : World) (d : Answer) → StandsFor a w → IsSound w → IsKnownEnd w.lists (answered d) → StaysSoundTurn script a a w (Ok (Done d))
-thrown_sound script a w d h sound known = (w, goes_none a w h, later_none w, sound, known)
+frame_goes_on script v q (frame.Body f) h c u s l fits = (h.0 c u s l fits, items_later (context script f.body f.cells) v u f.pending l h.1)
+frame_goes_on script v q (frame.Constructing k) h c u s l fits = h c u s l fits

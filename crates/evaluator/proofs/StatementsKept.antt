@@ -1,5 +1,5 @@
 -- Statements keep worlds sound.
-use Rattle.std.proofs.Common.{ℕ, ◌++◌, Option, Some, None, List, [], ◌∷◌, arith}
+use Rattle.std.proofs.Common.{◌≡◌, ◌≤◌, ◌+◌, ℕ, ◌++◌, Option, Some, None, List, [], ◌∷◌, length, sym, ◌∙◌, arith}
 use Rattle.std.specs.Prelude.{zero, suc}
 use Rattle.std.proofs.lemmas.List.{length-append}
 use Rattle.property_keys.specs.declared.values.Value.{Value}
@@ -18,13 +18,13 @@ use Rattle.es_model.specs.declared.kinds.CellNo.{CellNo}
 use Rattle.es_model.specs.declared.running.Part.{Part}
 use Rattle.es_model.specs.declared.running.Part.TheVariants as part_of
 use Rattle.es_model.specs.Completions.{Completion, Normal, Break, Continue, Return, Throw}
-use Rattle.es_model.specs.World.{World, new_cell}
+use Rattle.es_model.specs.World.{Lists, World, new_cell}
 use Rattle.es_model.specs.Changes.{MakingCell, SettingCell, cell_made, changed}
 use Rattle.es_model.specs.Program.{Program, Statements}
 use Rattle.es_model.specs.Fits.{IsKnownCompletion}
 use Rattle.es_model.specs.Known.{IsCell, IsKnown}
 use Rattle.es_model.specs.Sound.{IsSound}
-use Rattle.es_model.specs.Kept.{AreCells, IsLater}
+use Rattle.es_model.specs.Kept.{AreCells, IsKept, IsLater}
 use Rattle.es_model.proofs.Keeping.{later_none, later_then}
 use Rattle.es_model.proofs.SharedKept.{later-changed}
 use Rattle.es_model.proofs.SoundChanges.{sound-cell, sound-cell_set}
@@ -33,7 +33,7 @@ use Rattle.evaluator.specs.Contexts.{Context, node_at, with_cells}
 use Rattle.evaluator.specs.Scopes.{bound_cell, enter_scope, enter_with, initialise, make_cells}
 use Rattle.evaluator.specs.Statements.{after_statement, block_last, block_then, catch_in, catch_of, declare_all, declare_first, declared_valued, finally_in, finish_try, for_again, for_begun, for_first, for_round, for_step, for_stepped, for_valued, if_valued, last_ended, last_of, otherwise, return_statement, return_valued, round, round_of, statement_at, statement_program, statements, throw_valued, tried_ended, while_again, while_valued}
 use Rattle.evaluator.proofs.OperatorsKept.{last-kept}
-use Rattle.evaluator.proofs.WordsKept.{Keeps, done-kept, look-kept, change-kept, task-kept, IsHere, OnEnd, Onward, cells-stay, completion-stays, evaluated-kept, here-stays, kept-if, onward-stays, running-stays, text-kept, value-kept}
+use Rattle.evaluator.proofs.WordsKept.{Keeps, kept-of, kept-whole, done-kept, look-kept, change-kept, task-kept, IsHere, OnEnd, Onward, cells-stay, completion-stays, evaluated-kept, here-stays, kept-if, onward-stays, running-stays, text-kept, value-kept}
 
 -- ---- scopes
 
@@ -42,30 +42,42 @@ unfolding changed cell_made
 cell-there w x = let n = length-append w.lists.cells (x ∷ []) in omega arith
 
 -- these cells, and a new one
-cells-more : (w : World) (x : Option Value) (cells : List CellNo) → AreCells w.lists cells → AreCells (changed (MakingCell x) w).lists (cells ++ new_cell w.lists ∷ [])
+pub cells-more : (w : World) (x : Option Value) (cells : List CellNo) → AreCells w.lists cells → AreCells (changed (MakingCell x) w).lists (cells ++ new_cell w.lists ∷ [])
 cells-more w x cells h =
     let v : World = changed (MakingCell x) w in all-append (IsCell v.lists) cells (new_cell w.lists) (cell-there w x) (cells-stay w v (later-changed (MakingCell x) w) cells h)
 
+more-cells : (w : World) (x : Option Value) → length (changed (MakingCell x) w).lists.cells ≡ length w.lists.cells + 1
+unfolding changed cell_made
+more-cells w x = length-append w.lists.cells (x ∷ [])
+
+-- so many cells behind these, and the world has so many more
+pub cells_kept : (P : Lists → Completion → Type 0) (w : World) (n : ℕ) (cells : List CellNo) (next : List CellNo → Program) → IsSound w → AreCells w.lists cells →
+    ((all : List CellNo) (v : World) → IsSound v → IsLater w v → n + length w.lists.cells ≤ length v.lists.cells → AreCells v.lists all → IsKept P (next all) v) → IsKept P (make_cells n cells next) w
+cells_kept P w zero cells next s h f = f cells w s (later_none w) (omega arith) h
+cells_kept P w (suc n) cells next s h f =
+    let v : World = changed (MakingCell None) w in
+    let one = more-cells w None in
+    cells_kept P v n (cells ++ new_cell w.lists ∷ []) next (sound-cell w None s tt) (cells-more w None cells h)
+    (λ all u su l more there. f all u su (later_then w v u (later-changed (MakingCell None) w) l) (omega arith) there)
+
 make_cells-kept : (w : World) (n : ℕ) (cells : List CellNo) (next : List CellNo → Program) → IsSound w → AreCells w.lists cells →
     ((all : List CellNo) (v : World) → IsSound v → IsLater w v → AreCells v.lists all → Keeps (next all) v) → Keeps (make_cells n cells next) w
-make_cells-kept w zero cells next s h f = f cells w s (later_none w) h
-make_cells-kept w (suc n) cells next s h f =
-    let v : World = changed (MakingCell None) w in
-    look-kept w _ (change-kept w _ _ (make_cells-kept v n (cells ++ new_cell w.lists ∷ []) next (sound-cell w None s tt) (cells-more w None cells h) (λ all u su l there. f all u su (later_then w v u (later-changed (MakingCell None) w) l) there)))
+make_cells-kept w n cells next s h f =
+    kept-of (make_cells n cells next) w (cells_kept IsKnownCompletion w n cells next s h (λ all v sv l more there. kept-whole (next all) v (f all v sv l there)))
 
 -- what goes on in an inner scope
 abbrev pub OnScope : World → (Context → Program) → Type 0
 OnScope w next = (inner : Context) (v : World) → IsSound v → IsLater w v → IsHere v inner → Keeps (next inner) v
 
 pub scope-kept : (w : World) (here : Context) (names : ℕ) (next : Context → Program) → IsSound w → IsHere w here → OnScope w next → Keeps (enter_scope here names next) w
-scope-kept w here names next s h f = make_cells-kept w names here.cells _ s h.1 (λ all v sv l there. f (with_cells here all) v sv l (running-stays w v l here.body h.0, there))
+scope-kept w here names next s h f = make_cells-kept w names here.cells _ s h.1 (λ all v sv l there. f (with_cells here all) v sv l (running-stays w v l here.body h.0, there, h.2 ∙ sym l.script))
 
 enter_with-kept : (w : World) (here : Context) (named : Option Named) (x : Value) (next : Context → Program) → IsSound w → IsHere w here → IsKnown w.lists x → OnScope w next → Keeps (enter_with here named x next) w
 enter_with-kept w here None x next s h known f = f here w s (later_none w) h
 enter_with-kept w here (Some named) x next s h known f =
     let v : World = changed (MakingCell (Some x)) w in
     let l : IsLater w v = later-changed (MakingCell (Some x)) w in
-    look-kept w _ (change-kept w _ _ (f (with_cells here (here.cells ++ new_cell w.lists ∷ [])) v (sound-cell w (Some x) s known) l (running-stays w v l here.body h.0, cells-more w (Some x) here.cells h.1)))
+    look-kept w _ (change-kept w _ _ (f (with_cells here (here.cells ++ new_cell w.lists ∷ [])) v (sound-cell w (Some x) s known) l (running-stays w v l here.body h.0, cells-more w (Some x) here.cells h.1, h.2 ∙ sym l.script)))
 
 initialise-kept : (w : World) (here : Context) (bound : Binding) (x : Value) (next : Program) → IsSound w → IsKnown w.lists x → Onward w next → Keeps (initialise here bound x next) w
 initialise-kept w here bound x next s known f =

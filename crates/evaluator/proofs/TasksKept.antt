@@ -1,9 +1,8 @@
--- The tasks of a running body keep worlds sound, and so does the start of a script.
-use Rattle.std.proofs.Common.{ℕ, Option, Some, None, List, [], ◌∷◌}
+-- The tasks of a running body keep worlds sound.
+use Rattle.std.proofs.Common.{ℕ, Option, Some, None, List, refl}
 use Rattle.std.specs.Prelude.{slice_get}
 use Rattle.property_keys.specs.declared.identifiers.TextId.{TextId}
 use Rattle.property_keys.specs.declared.values.Value.TheVariants as value
-use Rattle.es_tree.specs.declared.body.DeclaredFunction.{DeclaredFunction}
 use Rattle.es_tree.specs.declared.expressions.Access.{Access}
 use Rattle.es_tree.specs.declared.expressions.Access.TheVariants as access
 use Rattle.es_tree.specs.declared.expressions.Operator.{Operator}
@@ -11,22 +10,18 @@ use Rattle.es_tree.specs.declared.expressions.Operator.TheVariants as operator
 use Rattle.es_tree.specs.declared.node.Node.{Node}
 use Rattle.es_tree.specs.declared.node.Node.TheVariants as node
 use Rattle.es_tree.specs.declared.numbers.NodeId.{NodeId}
-use Rattle.es_tree.specs.Tree.{top_names}
 use Rattle.es_model.specs.declared.kinds.CellNo.{CellNo}
 use Rattle.es_model.specs.declared.running.Part.{Part}
-use Rattle.es_model.specs.declared.running.Part.TheVariants as part_of
 use Rattle.es_model.specs.declared.running.Running.{Running}
-use Rattle.es_model.specs.Completions.{Completion, Normal, Break, Continue, Return, Throw}
-use Rattle.es_model.specs.World.{Lists, World}
-use Rattle.es_model.specs.Program.{Program, Evaluating, Statements, Round}
-use Rattle.es_model.specs.Fits.{IsKnownCompletion}
+use Rattle.es_model.specs.World.{World}
+use Rattle.es_model.specs.Program.{Evaluating, Statements, Round}
+use Rattle.es_model.specs.Known.{IfThere, IsText}
 use Rattle.es_model.specs.Sound.{IsSound}
-use Rattle.es_model.specs.Kept.{FitsTask, IsKept, IsKnownRunning, IsKnownTask}
-use Rattle.es_model.proofs.Keeping.{later_none}
+use Rattle.es_model.specs.Kept.{FitsTask, IsKept, IsKnownTask}
+use Rattle.es_model.proofs.KnownLater.{there-map}
 use Rattle.evaluator.specs.Accesses.{read_reference}
 use Rattle.evaluator.specs.Assignments.{update_reference}
 use Rattle.evaluator.specs.Contexts.{Context, context}
-use Rattle.evaluator.specs.Functions.{body_end, body_ended, declare_functions, script_body, script_program}
 use Rattle.evaluator.specs.Operators.{left_valued, short_valued, test_valued}
 use Rattle.evaluator.specs.Statements.{statements_of}
 use Rattle.evaluator.specs.Tasks.{access_program, node_of, node_program, operator_program, round_program, statements_program}
@@ -35,8 +30,8 @@ use Rattle.evaluator.proofs.AssignmentsKept.{assignment-kept, update_reference-k
 use Rattle.evaluator.proofs.CallsKept.{call-kept, new-kept}
 use Rattle.evaluator.proofs.LiteralsKept.{primary-kept}
 use Rattle.evaluator.proofs.OperatorsKept.{comma-kept, left_valued-kept, short_valued-kept, test_valued-kept, unary-kept}
-use Rattle.evaluator.proofs.StatementsKept.{round_of-kept, scope-kept, statement-kept, statement_at-kept}
-use Rattle.evaluator.proofs.WordsKept.{Keeps, kept-whole, done-kept, task-kept, IsHere, OnEnd, Onward, charged-kept, evaluated-kept, global-there, here-stays, kept-if}
+use Rattle.evaluator.proofs.StatementsKept.{round_of-kept, statement-kept, statement_at-kept}
+use Rattle.evaluator.proofs.WordsKept.{Keeps, kept-whole, done-kept, IsHere, charged-kept, evaluated-kept, here-stays, text-stays}
 
 operator-kept : (w : World) (here : Context) (n : NodeId) (o : Operator) → IsSound w → IsHere w here → Keeps (operator_program here n o) w
 operator-kept w here n (operator.Comma items) s h = comma-kept w here items value.Undefined s h tt
@@ -56,12 +51,12 @@ access-kept w here n (access.Index base key read write) s h =
 access-kept w here n (access.Call callee arguments) s h = call-kept w here n callee s h
 access-kept w here n (access.New callee arguments) s h = new-kept w here n callee s h
 
-node_of-kept : (w : World) (here : Context) (name : Option TextId) (n : NodeId) (found : Option Node) → IsSound w → IsHere w here → Keeps (node_of here name n found) w
-node_of-kept w here name n None s h = done-kept w _ s tt
-node_of-kept w here name n (Some (node.Statement p)) s h = statement-kept w here n p s h
-node_of-kept w here name n (Some (node.Operator o)) s h = operator-kept w here n o s h
-node_of-kept w here name n (Some (node.Access a)) s h = access-kept w here n a s h
-node_of-kept w here name n (Some (node.Primary p)) s h = primary-kept w here name n p s h
+node_of-kept : (w : World) (here : Context) (name : Option TextId) (n : NodeId) (found : Option Node) → IsSound w → IsHere w here → IfThere (IsText w.lists) name → Keeps (node_of here name n found) w
+node_of-kept w here name n None s h known = done-kept w _ s tt
+node_of-kept w here name n (Some (node.Statement p)) s h known = statement-kept w here n p s h
+node_of-kept w here name n (Some (node.Operator o)) s h known = operator-kept w here n o s h
+node_of-kept w here name n (Some (node.Access a)) s h known = access-kept w here n a s h
+node_of-kept w here name n (Some (node.Primary p)) s h known = primary-kept w here name n p s h known
 
 -- ---- the tasks
 
@@ -69,37 +64,14 @@ pub node-kept : (w : World) (body : Running) (cells : List CellNo) (name : Optio
     IsKept (FitsTask (Evaluating body cells name n)) (node_program w.script body cells name n) w
 node-kept w body cells name n s h =
     let here : Context = context w.script body cells in
-    kept-whole (node_program w.script body cells name n) w (charged-kept w (node_of here name n (slice_get w.script.nodes n.0)) s (λ v sv l. node_of-kept v here name n (slice_get w.script.nodes n.0) sv (here-stays w v l here (h.0, h.1))))
+    kept-whole (node_program w.script body cells name n) w (charged-kept w (node_of here name n (slice_get w.script.nodes n.0)) s (λ v sv l.
+    node_of-kept v here name n (slice_get w.script.nodes n.0) sv (here-stays w v l here (h.0, h.1, refl)) (there-map (IsText w.lists) (IsText v.lists) (text-stays w v l) name h.2)))
 
 pub statements-kept : (w : World) (body : Running) (cells : List CellNo) (list : Part) (i : ℕ) → IsSound w → IsKnownTask w.script w.lists (Statements body cells list i) →
     IsKept (FitsTask (Statements body cells list i)) (statements_program w.script body cells list i) w
 statements-kept w body cells list i s h =
-    kept-whole (statements_program w.script body cells list i) w (statement_at-kept w (context w.script body cells) list i (slice_get (statements_of w.script list) i) s (h.0, h.1))
+    kept-whole (statements_program w.script body cells list i) w (statement_at-kept w (context w.script body cells) list i (slice_get (statements_of w.script list) i) s (h.0, h.1, refl))
 
 pub round-kept : (w : World) (body : Running) (cells : List CellNo) (n : NodeId) → IsSound w → IsKnownTask w.script w.lists (Round body cells n) →
     IsKept (FitsTask (Round body cells n)) (round_program w.script body cells n) w
-round-kept w body cells n s h = kept-whole (round_program w.script body cells n) w (round_of-kept w (context w.script body cells) n (slice_get w.script.nodes n.0) s (h.0, h.1))
-
--- ---- the start of a script
-
-body_end-known : (l : Lists) (c : Completion) → IsKnownCompletion l c → IsKnownCompletion l (body_end c)
-body_end-known l (Normal reply) h = tt
-body_end-known l Break h = tt
-body_end-known l Continue h = tt
-body_end-known l (Return v) h = h
-body_end-known l (Throw v) h = h
-
-pub body_ended-kept : (w : World) → OnEnd w body_ended
-body_ended-kept w = λ c v sv l known. done-kept v _ sv (body_end-known v.lists c known)
-
-declare_functions-kept : (w : World) (here : Context) (ds : List DeclaredFunction) (next : Program) → IsSound w → Onward w next → Keeps (declare_functions here ds next) w
-declare_functions-kept w here [] next s f = f w s (later_none w)
-declare_functions-kept w here (d ∷ ds) next s f = kept-if w d.is_last _ _ (charged-kept w _ s (λ v sv l. (done-kept v _ sv tt))) (declare_functions-kept w here ds next s f)
-
-pub script-running : (w : World) → IsSound w → IsKnownRunning w.script w.lists (script_body w.script)
-script-running w s = record { function = tt; callee = tt; arguments = tt; this = global-there w s }
-
-pub script-kept : (w : World) → IsSound w → IsKept IsKnownCompletion (script_program w.script) w
-script-kept w s = kept-whole (script_program w.script) w (
-    scope-kept w (context w.script (script_body w.script) []) (top_names w.script) _ s (script-running w s, tt) (λ top v sv l there.
-    declare_functions-kept v top w.script.script.declared _ sv (λ u su later. let known = here-stays v u later top there in task-kept u (Statements top.body [] part_of.Script 0) _ su (known.0, tt) (body_ended-kept u))))
+round-kept w body cells n s h = kept-whole (round_program w.script body cells n) w (round_of-kept w (context w.script body cells) n (slice_get w.script.nodes n.0) s (h.0, h.1, refl))

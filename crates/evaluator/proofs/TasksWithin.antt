@@ -1,9 +1,8 @@
 -- The tasks of a running body keep within their weights, where a charge gives as much as a charge of their script.
-use Rattle.std.proofs.Common.{ℕ, ◌+◌, ◌*◌, ◌≤◌, Option, Some, None, List, [], ◌∷◌, arith}
+use Rattle.std.proofs.Common.{ℕ, ◌+◌, ◌*◌, ◌≤◌, Option, Some, None, List, arith}
 use Rattle.std.specs.Prelude.{slice_get}
 use Rattle.property_keys.specs.declared.identifiers.TextId.{TextId}
 use Rattle.property_keys.specs.declared.values.Value.TheVariants as value
-use Rattle.es_tree.specs.declared.body.DeclaredFunction.{DeclaredFunction}
 use Rattle.es_tree.specs.declared.expressions.Access.{Access}
 use Rattle.es_tree.specs.declared.expressions.Access.TheVariants as access
 use Rattle.es_tree.specs.declared.expressions.Operator.{Operator}
@@ -12,17 +11,14 @@ use Rattle.es_tree.specs.declared.node.Node.{Node}
 use Rattle.es_tree.specs.declared.node.Node.TheVariants as node
 use Rattle.es_tree.specs.declared.numbers.NodeId.{NodeId}
 use Rattle.es_tree.specs.Definitions.{most_definitions}
-use Rattle.es_tree.specs.Tree.{Tree, top_names}
+use Rattle.es_tree.specs.Tree.{Tree}
 use Rattle.es_model.specs.declared.kinds.CellNo.{CellNo}
 use Rattle.es_model.specs.declared.running.Part.{Part}
 use Rattle.es_model.specs.declared.running.Running.{Running}
-use Rattle.es_model.specs.declared.running.Part.TheVariants as part_of
-use Rattle.es_model.specs.Program.{Program}
 use Rattle.es_model.specs.Weights.{IsWithin}
 use Rattle.evaluator.specs.Accesses.{read_reference}
 use Rattle.evaluator.specs.Assignments.{update_reference}
 use Rattle.evaluator.specs.Contexts.{Context, context}
-use Rattle.evaluator.specs.Functions.{body_ended, declare_functions, script_body, script_program}
 use Rattle.evaluator.specs.Operators.{left_valued, short_valued, test_valued}
 use Rattle.evaluator.specs.Statements.{statements_of}
 use Rattle.evaluator.specs.Tasks.{access_program, node_of, node_program, operator_program, round_program, statements_program}
@@ -31,8 +27,8 @@ use Rattle.evaluator.proofs.AssignmentsWithin.{assignment-within, update_referen
 use Rattle.evaluator.proofs.CallsWithin.{call-within, new-within}
 use Rattle.evaluator.proofs.LiteralsWithin.{primary-within}
 use Rattle.evaluator.proofs.OperatorsWithin.{comma-within, left_valued-within, short_valued-within, test_valued-within, unary-within}
-use Rattle.evaluator.proofs.StatementsWithin.{round_of-within, scope-within, statement-within, statement_at-within}
-use Rattle.evaluator.proofs.WordsWithin.{within-whole, listed-within, Within, charged-within, cond-within, done-within, evaluated-within, listed-within}
+use Rattle.evaluator.proofs.StatementsWithin.{round_of-within, statement-within, statement_at-within}
+use Rattle.evaluator.proofs.WordsWithin.{Within, within-whole, charged-within, done-within, evaluated-within}
 
 operator-within : (r : ℕ) (here : Context) (n : NodeId) (o : Operator) → 200 ≤ r → Within r r (operator_program here n o)
 operator-within r here n (operator.Comma items) enough = comma-within r r here items value.Undefined (omega arith) (omega arith)
@@ -72,13 +68,3 @@ statements-within r script body cells list i enough =
 
 pub round-within : (r : ℕ) (script : Tree) (body : Running) (cells : List CellNo) (n : NodeId) → 200 ≤ r → IsWithin r 1 (round_program script body cells n)
 round-within r script body cells n enough = within-whole r 1 (round_program script body cells n) (round_of-within r 1 (context script body cells) n (slice_get script.nodes n.0) (omega arith) (omega arith))
-
--- ---- the start of a script
-
-declare_functions-within : (r b : ℕ) (here : Context) (ds : List DeclaredFunction) (next : Program) → Within r b next → Within r b (declare_functions here ds next)
-declare_functions-within r b here [] next h = h
-declare_functions-within r b here (d ∷ ds) next h = cond-within r b d.is_last _ _ (charged-within _ _ _ (done-within _ _ _)) (declare_functions-within r b here ds next h)
-
-pub script-within : (r b : ℕ) (script : Tree) → 2 ≤ b → Within r b (script_program script)
-script-within r b script some =
-    scope-within r b (context script (script_body script) []) (top_names script) _ (λ top. declare_functions-within r b top script.script.declared _ (listed-within r b 0 top.body [] part_of.Script 0 body_ended some (λ c. (done-within _ _ _))))

@@ -1,5 +1,5 @@
 -- What goes on after a question, a part or one of the words of evaluation keeps worlds sound.
-use Rattle.std.proofs.Common.{◌≡◌, ◌≤◌, ◌<◌, ◌+◌, ◌++◌, ℕ, ℤ, Bool, true, false, cond, Option, Some, None, List, [], ◌∷◌, length, refl, sym, subst, arith}
+use Rattle.std.proofs.Common.{◌≡◌, ◌≤◌, ◌<◌, ◌+◌, ◌++◌, ℕ, ℤ, Bool, true, false, cond, Option, Some, None, List, [], ◌∷◌, length, refl, sym, ◌∙◌, subst, arith}
 use Rattle.std.specs.Prelude.{codes, nat_le}
 use Rattle.std.specs.Option.{option_map_or}
 use Rattle.std.proofs.lemmas.Bool.{and_parts, leb-true}
@@ -19,7 +19,7 @@ use Rattle.property_keys.proofs.KeyLaws.{IsGoodKey-key_of}
 use Rattle.descriptors.specs.declared.fields.Descriptor.{Descriptor}
 use Rattle.es_tree.specs.declared.numbers.FunctionNo.{FunctionNo}
 use Rattle.es_tree.specs.declared.numbers.NodeId.{NodeId}
-use Rattle.es_tree.specs.Tree.{Tree}
+use Rattle.es_tree.specs.Tree.{Tree, top_names}
 use Rattle.es_model.specs.declared.intrinsics.Class.TheVariants as class
 use Rattle.es_model.specs.declared.intrinsics.Intrinsic.TheVariants as intrinsic
 use Rattle.es_model.specs.declared.kinds.CellNo.{CellNo}
@@ -61,9 +61,9 @@ use Rattle.evaluator.specs.Values.{is_in_profile, key_of_text, or_out, whole_of,
 pub Keeps : Program → World → Type 0
 Keeps p w = IsKept IsKnownCompletion p w
 
--- what a context names is there
+-- what a context names is there, and its script is that of the world
 abbrev pub IsHere : World → Context → Type 0
-IsHere w here = IsKnownRunning w.script w.lists here.body × AreCells w.lists here.cells
+IsHere w here = IsKnownRunning w.script w.lists here.body × AreCells w.lists here.cells × (here.script ≡ w.script)
 
 -- ---- what goes on in every later world
 
@@ -84,6 +84,10 @@ Onward w p = (v : World) → IsSound v → IsLater w v → Keeps p v
 pub kept-whole : (p : Program) (w : World) → Keeps p w → IsKept IsKnownCompletion p w
 unfolding Keeps
 kept-whole p w h = h
+
+pub kept-of : (p : Program) (w : World) → IsKept IsKnownCompletion p w → Keeps p w
+unfolding Keeps
+kept-of p w h = h
 
 pub done-kept : (w : World) (c : Completion) → IsSound w → IsKnownCompletion w.lists c → Keeps (done c) w
 unfolding Keeps
@@ -124,16 +128,21 @@ completion-stays w v l Continue h = tt
 completion-stays w v l (Return x) h = value-stays w v l x h
 completion-stays w v l (Throw x) h = value-stays w v l x h
 
+pub top-stays : (w v : World) → IsLater w v → top_names w.script ≤ length w.lists.cells → top_names v.script ≤ length v.lists.cells
+top-stays w v l h = let g = l.lists.cells in subst (λ (script : Tree). top_names script ≤ length v.lists.cells) (sym l.script) (omega arith)
+
 pub running-stays : (w v : World) → IsLater w v → (body : Running) → IsKnownRunning w.script w.lists body → IsKnownRunning v.script v.lists body
 running-stays w v l body h = record {
   function = subst (λ (script : Tree). IfThere (λ (f : FunctionNo). f.0 < length script.functions) body.function) (sym l.script) h.function;
   callee = there-map (IsObject w.lists) (IsObject v.lists) (object-later w.lists v.lists l.lists) body.callee h.callee;
   arguments = there-map (IsObject w.lists) (IsObject v.lists) (object-later w.lists v.lists l.lists) body.arguments h.arguments;
   this = value-stays w v l body.this h.this;
+  constructs = there-map (IsObject w.lists) (IsObject v.lists) (object-later w.lists v.lists l.lists) body.constructs h.constructs;
+  top = top-stays w v l h.top;
 }
 
 pub here-stays : (w v : World) → IsLater w v → (here : Context) → IsHere w here → IsHere v here
-here-stays w v l here h = (running-stays w v l here.body h.0, cells-stay w v l here.cells h.1)
+here-stays w v l here h = (running-stays w v l here.body h.0, cells-stay w v l here.cells h.1, h.2 ∙ sym l.script)
 
 pub end-stays : (w v : World) → IsLater w v → (next : Completion → Program) → OnEnd w next → OnEnd v next
 end-stays w v l next f = λ c u s later known. f c u s (later_then w v u l later) known
@@ -187,7 +196,7 @@ pub task-kept : (w : World) (t : Task) (next : Completion → Program) → IsSou
 unfolding Keeps
 task-kept w t next s known f = (s, known, f)
 
-later-charged : (w : World) → IsLater w (charged w 1)
+pub later-charged : (w : World) → IsLater w (charged w 1)
 later-charged w = record { lists = grows-charged w 1; script = charged-script w 1 }
 
 pub charged-kept : (w : World) (p : Program) → IsSound w → Onward w p → Keeps (charge 1 p) w
@@ -207,7 +216,7 @@ kept-le n m w p q false e f h = h
 -- ---- errors
 
 no_body : Running
-no_body = record { function = None; callee = None; arguments = None; this = value.Undefined; strict = false }
+no_body = record { function = None; callee = None; arguments = None; this = value.Undefined; constructs = None; strict = false }
 
 pub error-known : (w : World) (k : ErrorKind) (text : List ℕ) → IsSound w → IsShort text → Keeps (throw_error k text) w
 unfolding Keeps

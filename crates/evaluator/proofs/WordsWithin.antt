@@ -35,6 +35,10 @@ pub within-whole : (r b : ℕ) (p : Program) → Within r b p → IsWithin r b p
 unfolding Within
 within-whole r b p h = h
 
+pub within-of : (r b : ℕ) (p : Program) → IsWithin r b p → Within r b p
+unfolding Within
+within-of r b p h = h
+
 -- what goes on from every completion
 abbrev pub On : ℕ → ℕ → (Completion → Program) → Type 0
 On r b next = (c : Completion) → Within r b (next c)

@@ -1,9 +1,6 @@
 -- The machine that evaluates a running body between two requests: what its stack of items means.
-use Rattle.std.specs.Prelude.{◌≡◌, ◌+◌, ◌*◌, ℕ, List, take, length, Option, Some, None, Result, Ok, Err}
-use Rattle.es_tree.specs.declared.body.DeclaredFunction.{DeclaredFunction}
+use Rattle.std.specs.Prelude.{◌≡◌, ◌+◌, ◌*◌, ℕ, List, take, length, Result, Ok, Err}
 use Rattle.es_tree.specs.Tree.{Tree}
-use Rattle.es_model.specs.declared.answers.Completion.{Completion as Answer}
-use Rattle.es_model.specs.Stages.{AtEnd, AtHalt, stage_of}
 use Rattle.es_model.specs.declared.answers.Stop.{Stop}
 use Rattle.es_model.specs.declared.answers.Stop.TheVariants.{Halted, NoMemory}
 use Rattle.es_model.specs.declared.kinds.CellNo.{CellNo}
@@ -16,12 +13,13 @@ use Rattle.object_heap.specs.Stands.{HeapView, Goes, Halts}
 use Rattle.evaluator.specs.declared.frames.Current.{Current}
 use Rattle.evaluator.specs.declared.frames.Current.TheVariants.{At, EndedBy}
 use Rattle.evaluator.specs.declared.frames.EvalFrame.{EvalFrame}
+use Rattle.evaluator.specs.declared.frames.EvalFrame.TheVariants as frame
 use Rattle.evaluator.specs.declared.frames.Next.{Next}
 use Rattle.evaluator.specs.declared.frames.Next.TheVariants.{GoOn, Asks, Ends}
 use Rattle.evaluator.specs.declared.frames.Pending.{Pending}
 use Rattle.evaluator.specs.declared.items.Job.{Job}
 use Rattle.evaluator.specs.Contexts.{Context, context, with_cells}
-use Rattle.evaluator.specs.Functions.{body_ended, declare_functions}
+use Rattle.evaluator.specs.Functions.{body_ended, construct_answered}
 use Rattle.evaluator.specs.Plans.{asked_program, ended, item_program, job_program, task_of}
 
 -- the context with its first cells alone
@@ -39,7 +37,7 @@ pending_rest here S n p c w = run S (item_program (within here p.depth) p.item c
 
 -- the items that wait, and below them the end of the body
 abbrev pub unwound : Context → Server → ℕ → List Pending → Outcome → Outcome
-unwound here S n pending o = after (unwind (pending_rest here S n) pending o) (λ c w. run S (body_ended c) n w)
+unwound here S n pending o = after (unwind (pending_rest here S n) pending o) (λ c w. run S (body_ended here c) n w)
 
 abbrev pub current_outcome : Context → Server → ℕ → Current → World → Outcome
 current_outcome here S n (At j) w = S n (task_of here j) w
@@ -69,10 +67,11 @@ pub record IsServer (S : Server) : Type 0 where
   pub serves : (r : Running) (cells : List CellNo) (j : Job) (n : ℕ) (w : World) →
       S n (task_of (context w.script r cells) j) w ≡ run S (job_program (context w.script r cells) j) n w
 
--- what is left where a frame waits, in a script
+-- what is left where a frame waits, in a script: of a body, or of a construction that has asked for the prototype
 abbrev pub eval_rest : Tree → Rest EvalFrame
-eval_rest script f S n c w =
+eval_rest script (frame.Body f) S n c w =
     let here : Context = context script f.body f.cells in unwound here S n f.pending (run S (asked_program here f.asked c) n w)
+eval_rest script (frame.Constructing k) S n c w = run S (construct_answered script k.function k.callee k.arguments k.target c) n w
 
 -- ---- enough steps
 
@@ -84,14 +83,3 @@ budget definitions = 200 + 40 * definitions
 -- two for each turn, and one for each item that waits. One more for each budget takes the items from the stack
 abbrev pub steps_for : ℕ → ℕ → ℕ → ℕ
 steps_for turns waiting definitions = (1 + 2 * turns + waiting) * (2 * budget definitions + 1) + 3
-
--- ---- the start of a script
-
--- What the declared functions of a script do: none of them is made, or the first that is ends the script
-abbrev pub Declares : Context → List DeclaredFunction → HeapView → HeapView → World → Result (Option Answer) Stop → Type 0
-Declares here ds old new w (Ok None) = Goes old new w w × ((next : Program) → declare_functions here ds next ≡ next)
-Declares here ds old new w (Ok (Some d)) =
-    (v : World) × Goes old new w v × ((next : Program) → stage_of (declare_functions here ds next) w ≡ AtEnd (answered d) v)
-Declares here ds old new w (Err Halted) =
-    (v : World) × Halts old new w v × ((next : Program) → stage_of (declare_functions here ds next) w ≡ AtHalt v)
-Declares here ds old new w (Err NoMemory) = Unit {0}

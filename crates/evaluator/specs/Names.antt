@@ -14,14 +14,16 @@ use Rattle.es_model.specs.declared.requests.Request.{Request}
 use Rattle.es_model.specs.declared.requests.Request.TheVariants.{Read, Write}
 use Rattle.es_model.specs.declared.running.Running.{Running}
 use Rattle.property_keys.specs.declared.identifiers.ObjectId.{ObjectId}
-use Rattle.es_model.specs.Belongs.{FrameName, NamesObject, NamesValue, NamesKey, NamesCompletion, NamesText, NamesCell, NamesFunction, NamesSite, HasNames}
+use Rattle.es_model.specs.Belongs.{FrameName, NamesObject, NamesValue, NamesKey, NamesCompletion, NamesText, NamesCell, NamesFunction, NamesSite, NamesTop, HasNames}
 use Rattle.es_model.specs.Completions.{Normal}
 use Rattle.es_model.specs.Fits.{IsKnownCompletion}
 use Rattle.es_model.specs.Kept.{AreCells, IsKnownRunning}
 use Rattle.es_model.specs.World.{Lists}
 use Rattle.evaluator.specs.declared.frames.Current.{Current}
 use Rattle.evaluator.specs.declared.frames.Current.TheVariants.{At, EndedBy}
+use Rattle.evaluator.specs.declared.frames.Construction.{Construction}
 use Rattle.evaluator.specs.declared.frames.EvalFrame.{EvalFrame}
+use Rattle.evaluator.specs.declared.frames.EvalFrame.TheVariants as frame
 use Rattle.evaluator.specs.declared.frames.Next.{Next}
 use Rattle.evaluator.specs.declared.frames.Next.TheVariants.{GoOn, Asks, Ends}
 use Rattle.evaluator.specs.declared.frames.Pending.{Pending}
@@ -53,6 +55,7 @@ use Rattle.evaluator.specs.declared.references.Invocation.{Invocation}
 use Rattle.evaluator.specs.declared.references.Invocation.TheVariants as invocation
 use Rattle.evaluator.specs.declared.references.Reference.{Reference}
 use Rattle.evaluator.specs.declared.references.Reference.TheVariants as reference
+use Rattle.evaluator.specs.Frames.{Waiting}
 use Rattle.evaluator.specs.Plans.{ended}
 
 -- ---- what waits
@@ -157,14 +160,22 @@ optional_names name (Some x) = name x ∷ []
 
 abbrev pub names_of_body : Running → List FrameName
 names_of_body body =
-    NamesValue body.this ∷ (optional_names NamesFunction body.function
-    ++ (optional_names NamesObject body.callee ++ optional_names NamesObject body.arguments))
+    NamesTop ∷ NamesValue body.this ∷ (optional_names NamesFunction body.function
+    ++ (optional_names NamesObject body.callee ++ (optional_names NamesObject body.arguments ++ optional_names NamesObject body.constructs)))
 
 abbrev pub names_of_items : List Pending → List FrameName
 names_of_items ps = flat_map (λ (p : Pending). names_of_item p.item) ps
 
+abbrev pub names_of_waiting : Waiting → List FrameName
+names_of_waiting f = names_of_body f.body ++ (map NamesCell f.cells ++ (names_of_items f.pending ++ names_of_asked f.asked))
+
+abbrev pub names_of_construction : Construction → List FrameName
+names_of_construction k =
+    NamesTop ∷ NamesFunction k.function ∷ NamesObject k.callee ∷ NamesCompletion (Normal (reply.List k.arguments)) ∷ NamesObject k.target ∷ []
+
 abbrev pub names_of : EvalFrame → List FrameName
-names_of f = names_of_body f.body ++ (map NamesCell f.cells ++ (names_of_items f.pending ++ names_of_asked f.asked))
+names_of (frame.Body f) = names_of_waiting f
+names_of (frame.Constructing k) = names_of_construction k
 
 -- ---- what a plan keeps
 

@@ -113,7 +113,7 @@ fn name_at(script: &Checked, n: NodeId, i: usize) -> Option<&Declared>
 // ---- their values
 
 /// The cell of a name that is declared.
-fn bound_cell(cells: &Cells, binding: Binding) -> CellNo
+pub(crate) fn bound_cell(cells: &Cells, binding: Binding) -> CellNo
     ensures { (script : Tree) (body : RunningBody) → result ≡ bound_cell (context script body cells.now) binding }
 {
     match binding {

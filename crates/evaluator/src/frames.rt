@@ -2,7 +2,9 @@
 
 use crate::cells::Cells;
 use crate::items::{Asked, Ending, Item, Job};
-use es_model::{Completion, Request, Running};
+use es_model::{Completion, Request, Running, Values};
+use es_tree::FunctionNo;
+use property_keys::ObjectId;
 use std::marker::Model;
 
 /// An item that waits, with how many cells are in force there.
@@ -15,14 +17,14 @@ pub(crate) struct Pending {
 /// A running body that waits for an answer: a node or a statement in it has asked, and below it wait the items of those around it, which see no more cells
 /// than it has.
 #[derive(Drop)]
-pub struct EvalFrame {
+pub struct BodyFrame {
     pub(crate) body: Running,
     pub(crate) cells: Cells,
     pub(crate) pending: Vec<Pending>,
     pub(crate) asked: Asked,
 }
 
-impl Model for EvalFrame {
+impl Model for BodyFrame {
     ghost use Rattle.std.specs.Prelude.{length};
     ghost use Rattle.evaluator.specs.Frames.{IsStacked, Waiting};
 
@@ -31,6 +33,22 @@ impl Model for EvalFrame {
     ghost view = { λ f. record { body = f.body; cells = f.cells; pending = f.pending.items; asked = f.asked } };
 
     ghost invariant = { λ f. IsStacked 0 f.pending.items (length f.cells) };
+}
+
+/// A construction that waits for the prototype of its new target (ECMA-262, 10.1.14): the function, its object and the arguments.
+#[derive(Drop)]
+pub struct Construction {
+    pub(crate) function: FunctionNo,
+    pub(crate) callee: ObjectId,
+    pub(crate) arguments: Values,
+    pub(crate) target: ObjectId,
+}
+
+/// A body that waits for an answer, or a construction before its body runs.
+#[derive(Drop)]
+pub enum EvalFrame {
+    Body(BodyFrame),
+    Constructing(Construction),
 }
 
 /// What is in hand.

@@ -5,6 +5,7 @@ mod accesses;
 mod answers;
 mod arithmetic;
 mod assignments;
+mod bodies;
 mod calls;
 mod cells;
 mod countdown;
@@ -12,6 +13,7 @@ mod declarations;
 mod definitions;
 mod endings;
 mod frames;
+mod functions;
 mod items;
 mod jobs;
 mod literals;
@@ -27,9 +29,11 @@ mod statements;
 mod texts;
 mod tree;
 mod trying;
+mod turns;
 mod values;
 mod writing;
 
 pub use frames::EvalFrame;
-pub use machine::{resume, start_body, start_script};
+
 pub use references::{Arithmetic, Finish, Invocation, Reference};
+pub use turns::{resume, start_body, start_construction, start_script};

@@ -22,6 +22,7 @@ ghost use Rattle.evaluator.specs.Names.{NamesPlan};
 use crate::accesses::resolve;
 use crate::cells::Cells;
 use crate::definitions::properties_from;
+use crate::functions::make_function;
 use crate::items::{Ending, Plan, Purpose};
 use crate::messages::out_of_profile;
 use crate::texts::intern;
@@ -123,6 +124,9 @@ pub(crate) fn primary_plan<L: Ledger>(
         Primary::Object { literal, .. } => object_literal(
             heap, script, body, cells, node, *literal, steps,
         ),
-        Primary::Array(_) | Primary::Function(_) | Primary::Method(_) => Ok(unwritten()),
+        Primary::Function(function) | Primary::Method(function) => make_function(
+            heap, script, body, cells, name, *function, steps,
+        ),
+        Primary::Array(_) => Ok(unwritten()),
     }
 }

@@ -1,42 +1,38 @@
-//! The machine that evaluates a running body between two requests, and the calls of the crate.
+//! The machine that evaluates a running body between two requests.
 
-ghost use Rattle.std.specs.Prelude.{◌≡◌, ◌++◌, ◌∷◌, ◌+◌, ◌<◌, ◌≤◌, [], ℕ, OnOk, Ok, length};
+ghost use Rattle.std.specs.Prelude.{◌≡◌, ◌++◌, ◌∷◌, ◌+◌, ◌≤◌, [], ℕ, OnOk, Ok, is_some, length};
 ghost use Rattle.es_model.specs.Completions.{answered};
 ghost use Rattle.es_model.specs.Fits.{IsKnownCompletion};
 ghost use Rattle.es_model.specs.Kept.{IsKept, IsKnownRunning, AreCells};
-ghost use Rattle.es_model.specs.Known.{AreKnown, IsKnown, IsObject};
 ghost use Rattle.es_model.specs.Program.{Outcome, Program, Server, run as run_of};
 ghost use Rattle.es_model.specs.Sound.{IsSound};
 ghost use Rattle.es_model.specs.Stages.{Stage, outcome_at, stage_of, world_at};
 ghost use Rattle.es_model.specs.Unwinding.{Stays};
 ghost use Rattle.es_model.specs.World.{Lists, World};
-ghost use Rattle.es_model.specs.declared.running.Part.TheVariants as part;
 ghost use Rattle.evaluator.specs.Contexts.{Context, context};
 ghost use Rattle.evaluator.specs.Frames.{IsStacked};
-ghost use Rattle.evaluator.specs.Functions.{call_program, script_body, script_program};
-ghost use Rattle.evaluator.specs.Machine.{Declares, IsInner, IsNext, IsServer, eval_rest, height, meaning, pending_rest, unwound};
+ghost use Rattle.evaluator.specs.Machine.{IsInner, IsNext, IsServer, eval_rest, height, meaning, pending_rest, unwound};
 ghost use Rattle.evaluator.specs.Plans.{Plans, asked_program, ended, task_of};
-ghost use Rattle.evaluator.specs.Soundness.{KeepsCurrent, KeepsItem, KeepsItems, KeepsRest, StaysSoundNext, StaysSoundTurn};
+ghost use Rattle.evaluator.specs.Soundness.{KeepsCurrent, KeepsItem, KeepsItems, StaysSoundNext, StaysSoundTurn};
 ghost use Rattle.evaluator.specs.declared.frames.Current.TheVariants.{At, EndedBy};
-ghost use Rattle.evaluator.specs.declared.items.Job.TheVariants as job;
 ghost use Rattle.object_heap.specs.Retains.{Retains};
 ghost use Rattle.object_heap.specs.Stands.{HeapView, StandsFor};
-ghost use Rattle.object_heap.specs.Turns.{IsTurnOf, KeepsNamed};
-ghost use Rattle.es_model.specs.Belongs.{Belongs, HasNames};
-ghost use Rattle.evaluator.specs.Names.{IsHereNamed, IsHereNext, IsKnownCurrent, NamesItems, NamesNext, NamesPlan, NamesTurn, names_of, names_of_asked, names_of_item};
+ghost use Rattle.object_heap.specs.Turns.{IsTurnOf};
+ghost use Rattle.es_model.specs.Belongs.{HasNames};
+ghost use Rattle.evaluator.specs.Names.{IsHereNamed, IsHereNext, IsKnownCurrent, NamesItems, NamesNext, NamesPlan, NamesTurn, names_of_asked, names_of_item};
 ghost use Rattle.es_tree.specs.Tree.{Tree};
 
 use crate::answers::asked_plan;
-use crate::cells::{Cells, make_cells};
+use crate::cells::Cells;
 use crate::countdown::Countdown;
 use crate::endings::end_of_body;
-use crate::frames::{Current, EvalFrame, Next, Pending};
+use crate::frames::{BodyFrame, Current, EvalFrame, Next, Pending};
 use crate::items::{Asked, Ending, Item, Job, Plan};
 use crate::jobs::{item_plan, job_plan};
-use es_model::{Completion, Intrinsic, Part, Running, Stop, Turn, Values};
-use es_tree::{Checked, FunctionNo};
+use es_model::{Completion, Running, Stop, Turn};
+use es_tree::Checked;
 use object_heap::Heap;
-use property_keys::{Ledger, NoMemory, ObjectId, Steps, Value};
+use property_keys::{Ledger, NoMemory, Steps};
 
 // ---- one step
 
@@ -154,7 +150,10 @@ fn step<L: Ledger>(
     match current {
         Current::At(job) => advance(heap, script, body, cells, pending, job, steps),
         Current::EndedBy(end) => match pending.pop() {
-            None => Ok(Next::Ends(end_of_body(end))),
+            None => {
+                let answer = end_of_body(heap, script, body, end)?;
+                Ok(Next::Ends(answer))
+            }
             Some(entry) => wake(heap, script, body, cells, pending, entry, end, steps),
         },
     }
@@ -162,11 +161,11 @@ fn step<L: Ledger>(
 
 // ---- until a request or the end
 
-fn waiting(body: Running, cells: Cells, pending: Vec<Pending>, asked: Asked) -> EvalFrame
+fn waiting(body: Running, cells: Cells, pending: Vec<Pending>, asked: Asked) -> BodyFrame
     requires { IsStacked 0 pending.items (length cells) }
     ensures { result ≡ record { body = body; cells = cells; pending = pending.items; asked = asked } }
 {
-    EvalFrame {
+    BodyFrame {
         body,
         cells,
         pending,
@@ -175,7 +174,7 @@ fn waiting(body: Running, cells: Cells, pending: Vec<Pending>, asked: Asked) -> 
 }
 
 /// Evaluates until a request or the end of the body.
-fn go<L: Ledger>(
+pub(crate) fn go<L: Ledger>(
     heap: &mut Heap,
     script: &Checked,
     body: Running,
@@ -186,7 +185,7 @@ fn go<L: Ledger>(
 ) -> Result<Turn<EvalFrame>, Stop>
     requires { IsStacked 0 pending.items (length cells) }
     ensures turn { (S : Server) (n : ℕ) (w : World) → IsServer S → w.script ≡ script.now → StandsFor heap.old w → IsTurnOf (eval_rest script.now) heap.old heap.new w S n (meaning (context script.now body cells) S n pending.items current w) result }
-    ensures sound { (w : World) → w.script ≡ script.now → StandsFor heap.old w → KeepsCurrent (context script.now body cells) w current → KeepsItems (context script.now body cells) w pending.items → StaysSoundTurn script.now heap.old heap.new w result }
+    ensures sound { (w : World) → w.script ≡ script.now → StandsFor heap.old w → KeepsCurrent (context script.now body cells) w current → KeepsItems (context script.now body cells) w pending.items → StaysSoundTurn (is_some body.constructs) script.now heap.old heap.new w result }
     ensures belongs { (w v : World) → w.script ≡ script.now → StandsFor heap.old w → KeepsCurrent (context script.now body cells) w current → KeepsItems (context script.now body cells) w pending.items → IsHereNamed script.now w.lists body cells pending.items → StandsFor heap.new v → NamesTurn script.now v.lists result }
     ensures retains { Retains heap.old heap.new }
 {
@@ -203,7 +202,10 @@ fn go<L: Ledger>(
         match step(heap, script, body, &mut cells, &mut pending, current, steps) {
             Ok(Next::GoOn(next)) => current = next,
             Ok(Next::Asks(request, asked)) => {
-                return Ok(Turn::Ask(request, waiting(body, cells, pending, asked)));
+                return Ok(Turn::Ask(
+                    request,
+                    EvalFrame::Body(waiting(body, cells, pending, asked)),
+                ));
             }
             Ok(Next::Ends(answer)) => return Ok(Turn::Done(answer)),
             Err(stop) => return Err(stop),
@@ -211,98 +213,7 @@ fn go<L: Ledger>(
     }
 }
 
-// ---- the calls of the crate
-
-/// The declared functions of the script, up to the first that is made: each takes a turn, and is not written yet.
-fn declare_functions(heap: &mut Heap, script: &Checked) -> Result<Option<Completion>, Stop>
-    ensures declares { (here : Context) (w : World) → StandsFor heap.old w → Declares here script.now.script.declared heap.old heap.new w result }
-    ensures retains { Retains heap.old heap.new }
-{
-    let declared = &script.script().declared;
-    for i in 0..declared.len() {
-        if declared.at(i).is_last {
-            return match heap.charge(1) {
-                Err(_) => Err(Stop::Halted),
-                Ok(()) => Ok(Some(Completion::Throw(Value::Undefined))),
-            };
-        }
-    }
-    Ok(None)
-}
-
-/// The script's own code as a body.
-fn script_running(script: &Checked) -> Running
-    ensures { result ≡ script_body script.now }
-{
-    Running {
-        function: None,
-        callee: None,
-        arguments: None,
-        this: Value::Object(Intrinsic::Global.object()),
-        strict: script.strict(),
-    }
-}
-
-/// The statements of the script. Its own names are in no frame.
-fn run_statements<L: Ledger>(
-    heap: &mut Heap,
-    script: &Checked,
-    steps: &mut Steps<L>,
-) -> Result<Turn<EvalFrame>, Stop>
-    ensures turn { (S : Server) (n : ℕ) (w : World) → IsServer S → w.script ≡ script.now → StandsFor heap.old w → IsTurnOf (eval_rest script.now) heap.old heap.new w S n (meaning (context script.now (script_body script.now) []) S n [] (At (job.Statements part.Script 0)) w) result }
-    ensures sound { (w : World) → w.script ≡ script.now → StandsFor heap.old w → IsSound w → StaysSoundTurn script.now heap.old heap.new w result }
-    ensures belongs { (w v : World) → w.script ≡ script.now → StandsFor heap.old w → IsSound w → StandsFor heap.new v → NamesTurn script.now v.lists result }
-    ensures retains { Retains heap.old heap.new }
-{
-    let body = script_running(script);
-    let cells = Cells::new(heap.alloc());
-    let pending = Vec::new(heap.alloc());
-    let first = Current::At(Job::Statements(Part::Script, 0));
-    go(heap, script, body, cells, pending, first, steps)
-}
-
-/// The first turn of a script (ECMA-262, 16.1.6). Its top scope's names get cells without a value, which come first in the world's.
-///
-/// Halted comes exactly where a charge does not fit: one turn for each node that is evaluated, for each declared function and for each primitive base's prototype.
-/// Declared functions are not made yet, and throw undefined here.
-#[tactic(auto, using(object_heap::specs::Stands::goes_none, object_heap::specs::Stands::goes_then, object_heap::specs::Stands::halts_at, object_heap::proofs::Retaining::retains_none, object_heap::proofs::Retaining::retains_then, crate::proofs::PlansNamed::keeps_wait, crate::proofs::PlansNamed::keeps_enter, crate::proofs::PlansNamed::keeps_ask, crate::proofs::PlansNamed::keeps_last, crate::proofs::PlansNamed::keeps_end, crate::proofs::PlansNamed::keeps_stop, crate::proofs::PlansNamed::defines_plan, crate::proofs::PlansNamed::defines_none, crate::proofs::PlansNamed::defines_stop, object_heap::proofs::Turns::named_done, object_heap::proofs::Turns::named_stop))]
-pub fn start_script<L: Ledger>(
-    heap: &mut Heap,
-    script: &Checked,
-    steps: &mut Steps<L>,
-) -> Result<Turn<EvalFrame>, Stop>
-    ensures turn { (S : Server) (n : ℕ) (w : World) → IsServer S → w.script ≡ script.now → StandsFor heap.old w → IsTurnOf (eval_rest script.now) heap.old heap.new w S n (run_of S (script_program script.now) n w) result }
-    ensures sound { (w : World) → w.script ≡ script.now → StandsFor heap.old w → IsSound w → StaysSoundTurn script.now heap.old heap.new w result }
-    ensures belongs { (w v : World) → w.script ≡ script.now → StandsFor heap.old w → IsSound w → StandsFor heap.new v → v.script ≡ script.now → KeepsNamed names_of v result }
-    ensures retains { Retains heap.old heap.new }
-{
-    let mut top = Cells::new(heap.alloc());
-    make_cells(heap, &mut top, script.top_names())?;
-    match declare_functions(heap, script) {
-        Err(stop) => Err(stop),
-        Ok(Some(end)) => Ok(Turn::Done(end)),
-        Ok(None) => run_statements(heap, script, steps),
-    }
-}
-
-/// The first turn of the body of a function of the script, after it is entered ([[Call]], ECMA-262, 10.2.1): the function, its object, the receiver and the
-/// arguments. Bodies are not evaluated yet, and throw undefined.
-pub fn start_body<L: Ledger>(
-    heap: &mut Heap,
-    script: &Checked,
-    function: FunctionNo,
-    callee: ObjectId,
-    this: Value,
-    arguments: Values,
-    steps: &mut Steps<L>,
-) -> Result<Turn<EvalFrame>, Stop>
-    ensures turn { (S : Server) (n : ℕ) (w : World) → IsServer S → w.script ≡ script.now → StandsFor heap.old w → IsTurnOf (eval_rest script.now) heap.old heap.new w S n (run_of S (call_program script.now function callee this arguments) n w) result }
-    ensures sound { (w : World) → w.script ≡ script.now → StandsFor heap.old w → IsSound w → function.0 < length script.now.functions → IsObject w.lists callee → IsKnown w.lists this → AreKnown w.lists arguments → StaysSoundTurn script.now heap.old heap.new w result }
-    ensures belongs { (v : World) → KeepsNamed names_of v result }
-    ensures retains { Retains heap.old heap.new }
-{
-    Ok(Turn::Done(Completion::Throw(Value::Undefined)))
-}
+// ---- with an answer
 
 fn continue_with<L: Ledger>(
     heap: &mut Heap,
@@ -315,19 +226,22 @@ fn continue_with<L: Ledger>(
 ) -> Result<Turn<EvalFrame>, Stop>
     requires { IsStacked 0 pending.items (length cells) }
     ensures turn { (S : Server) (n a : ℕ) (o : Outcome) (old : HeapView) (w : World) → IsServer S → w.script ≡ script.now → IsNext (context script.now body cells) S n a o old heap.old w pending.items (Ok next) → IsTurnOf (eval_rest script.now) old heap.new w S n o result }
-    ensures sound { (old : HeapView) (w : World) → w.script ≡ script.now → StaysSoundNext (context script.now body cells) old heap.old w pending.items (Ok next) → StaysSoundTurn script.now old heap.new w result }
+    ensures sound { (old : HeapView) (w : World) → w.script ≡ script.now → StaysSoundNext (context script.now body cells) old heap.old w pending.items (Ok next) → StaysSoundTurn (is_some body.constructs) script.now old heap.new w result }
     ensures belongs { (old : HeapView) (w v : World) → w.script ≡ script.now → StaysSoundNext (context script.now body cells) old heap.old w pending.items (Ok next) → ((x : World) → StandsFor heap.old x → IsHereNext script.now x.lists body cells pending.items (Ok next)) → StandsFor heap.new v → NamesTurn script.now v.lists result }
     ensures retains { Retains heap.old heap.new }
 {
     match next {
         Next::GoOn(current) => go(heap, script, body, cells, pending, current, steps),
-        Next::Asks(request, asked) => Ok(Turn::Ask(request, waiting(body, cells, pending, asked))),
+        Next::Asks(request, asked) => Ok(Turn::Ask(
+            request,
+            EvalFrame::Body(waiting(body, cells, pending, asked)),
+        )),
         Next::Ends(answer) => Ok(Turn::Done(answer)),
     }
 }
 
 /// A body goes on with the answer to what it asked.
-fn take_answer<L: Ledger>(
+pub(crate) fn take_answer<L: Ledger>(
     heap: &mut Heap,
     script: &Checked,
     body: Running,
@@ -339,7 +253,7 @@ fn take_answer<L: Ledger>(
 ) -> Result<Turn<EvalFrame>, Stop>
     requires { IsStacked 0 pending.items (length cells) }
     ensures turn { (S : Server) (n : ℕ) (w : World) → IsServer S → w.script ≡ script.now → StandsFor heap.old w → IsTurnOf (eval_rest script.now) heap.old heap.new w S n (unwound (context script.now body cells) S n pending.items (run_of S (asked_program (context script.now body cells) asked (answered answer)) n w)) result }
-    ensures sound { (w : World) → w.script ≡ script.now → StandsFor heap.old w → IsKept IsKnownCompletion (asked_program (context script.now body cells) asked (answered answer)) w → KeepsItems (context script.now body cells) w pending.items → StaysSoundTurn script.now heap.old heap.new w result }
+    ensures sound { (w : World) → w.script ≡ script.now → StandsFor heap.old w → IsKept IsKnownCompletion (asked_program (context script.now body cells) asked (answered answer)) w → KeepsItems (context script.now body cells) w pending.items → StaysSoundTurn (is_some body.constructs) script.now heap.old heap.new w result }
     ensures belongs { (w v : World) → w.script ≡ script.now → StandsFor heap.old w → IsSound w → IsKept IsKnownCompletion (asked_program (context script.now body cells) asked (answered answer)) w → KeepsItems (context script.now body cells) w pending.items → IsHereNamed script.now w.lists body cells pending.items → HasNames script.now w.lists (names_of_asked asked) → IsKnownCompletion w.lists (answered answer) → StandsFor heap.new v → NamesTurn script.now v.lists result }
     ensures retains { Retains heap.old heap.new }
 {
@@ -351,28 +265,4 @@ fn take_answer<L: Ledger>(
             Ok(next) => continue_with(heap, script, body, cells, pending, next, steps),
         },
     }
-}
-
-/// The next turn of a body, with the answer to what it asked.
-///
-/// Halted comes exactly where a charge does not fit.
-pub fn resume<L: Ledger>(
-    heap: &mut Heap,
-    script: &Checked,
-    frame: EvalFrame,
-    answer: Completion,
-    steps: &mut Steps<L>,
-) -> Result<Turn<EvalFrame>, Stop>
-    ensures turn { (S : Server) (n : ℕ) (w : World) → IsServer S → w.script ≡ script.now → StandsFor heap.old w → IsTurnOf (eval_rest script.now) heap.old heap.new w S n (eval_rest script.now frame S n (answered answer) w) result }
-    ensures sound { (w : World) → w.script ≡ script.now → StandsFor heap.old w → KeepsRest script.now w frame (answered answer) → StaysSoundTurn script.now heap.old heap.new w result }
-    ensures belongs { (w v : World) → w.script ≡ script.now → StandsFor heap.old w → IsSound w → KeepsRest script.now w frame (answered answer) → Belongs names_of w frame → IsKnownCompletion w.lists (answered answer) → StandsFor heap.new v → v.script ≡ script.now → KeepsNamed names_of v result }
-    ensures retains { Retains heap.old heap.new }
-{
-    let EvalFrame {
-        body,
-        cells,
-        pending,
-        asked,
-    } = frame;
-    take_answer(heap, script, body, cells, pending, asked, answer, steps)
 }

@@ -10,7 +10,8 @@ ghost use Rattle.evaluator.specs.Statements.{block_in, block_or_none, caught_blo
 
 use es_model::Part;
 use es_tree::{
-    Access, Block, Catch, Checked, FunctionNo, Items, Node, NodeId, Operator, Statement,
+    Access, Block, Catch, Checked, FunctionFacts, FunctionNo, Items, Node, NodeId, Operator,
+    Statement,
 };
 
 /// A node, if it is there.
@@ -20,6 +21,17 @@ pub(crate) fn node_at(script: &Checked, n: NodeId) -> Option<&Node>
 {
     if n.0 < script.nodes() {
         Some(script.node(n))
+    } else {
+        None
+    }
+}
+
+/// What is known of a function, if it is there.
+pub(crate) fn facts_at(script: &Checked, f: FunctionNo) -> Option<FunctionFacts>
+    ensures { result ≡ slice_get script.now.functions f.0 }
+{
+    if f.0 < script.functions() {
+        Some(*script.function(f))
     } else {
         None
     }

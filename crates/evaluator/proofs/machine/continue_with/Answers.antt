@@ -1,3 +1,4 @@
+use Rattle.std.specs.Prelude.{is_some}
 use Rattle.std.proofs.Common.{◌∙◌}
 use Rattle.evaluator.proofs.Looped.{frame_turn, step_goes}
 use Rattle.evaluator.specs.Contexts.{context}
@@ -21,7 +22,7 @@ returns-in-Ends-clause-turn g c = λ S n a o old w is same h. rw c.in-Ends.is at
 pub returns-in-GoOn-clause-sound : goal.returns-in-GoOn-clause-sound
 returns-in-GoOn-clause-sound g c = λ old w same h.
     let next = rw c.in-GoOn.is at h in
-    sound_goes c.args.script.now (context c.args.script.now c.args.body c.args.cells) old c.args.heap.now c.go.new.heap w c.args.pending.items c.in-GoOn.current c.go.result same next (λ v sv hv now ps. c.go.ensures.sound v sv hv now ps)
+    sound_goes (is_some c.args.body.constructs) c.args.script.now (context c.args.script.now c.args.body c.args.cells) old c.args.heap.now c.go.new.heap w c.args.pending.items c.in-GoOn.current c.go.result same next (λ v sv hv now ps. c.go.ensures.sound v sv hv now ps)
 
 pub returns-in-Asks-clause-sound : goal.returns-in-Asks-clause-sound
 returns-in-Asks-clause-sound g c = λ old w same h.

@@ -1,3 +1,4 @@
+use Rattle.std.specs.Prelude.{is_some}
 use Rattle.std.proofs.Common.{◌≡◌, ◌≤◌, ◌+◌, ◌*◌, arith, ◌∙◌, ap, sym, subst, Ok, length}
 use Rattle.std.proofs.lemmas.Bool.{OnFalse_at, OnTrue_at}
 use Rattle.es_model.specs.Weights.{renewed}
@@ -89,7 +90,7 @@ returns-in-Err-clause-turn g c = λ S n w is same h.
 
 pub returns-in-Err-clause-sound : goal.returns-in-Err-clause-sound
 returns-in-Err-clause-sound g c = λ w same h current items.
-    sound_stops c.args.script.now (context c.args.script.now c.args.body c.step.new.cells) c.args.heap.now c.step.new.heap w c.step.new.pending.items c.in-Err.stop
+    sound_stops (is_some c.args.body.constructs) c.args.script.now (context c.args.script.now c.args.body c.step.new.cells) c.args.heap.now c.step.new.heap w c.step.new.pending.items c.in-Err.stop
     (sound_on c.args.script.now c.args.body c.args.heap.now c.steps.heap c.step.new.heap w c.steps.cells c.step.new.cells c.steps.pending.items c.step.new.pending.items c.steps.current c.step.result _ same (c.steps.invariant.sound w same h current items) c.in-Err.is (λ v sv hv now ps. c.step.ensures.sound v sv hv now ps))
 
 pub returns-in-Ok-Asks-clause-belongs : goal.returns-in-Ok-Asks-clause-belongs

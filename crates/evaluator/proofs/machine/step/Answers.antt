@@ -9,15 +9,15 @@ use Rattle.evaluator.proofs.machine.step.Goals as goal
 pub returns-in-At-clause-next : goal.returns-in-At-clause-next
 returns-in-At-clause-next g c = λ S n w is same h. rw c.in-At.is (c.advance.ensures.next S n w is same h)
 
-pub returns-in-None-clause-next : goal.returns-in-None-clause-next
-returns-in-None-clause-next g c = λ S n w is same h.
+pub returns-in_ok-answer-in-None-clause-next : goal.returns-in_ok-answer-in-None-clause-next
+returns-in_ok-answer-in-None-clause-next g c = λ S n w is same h.
     let here = context c.args.script.now c.args.body c.args.cells.now in
     let none : length c.args.pending.now.items ≡ 0 = omega (arith, c.args.pending.now.ok.0, c.in-None.ensures.cases.0) in
     rw c.in-EndedBy.is
-    (end_step here S n c.args.heap.now w c.args.pending.now.items c.pop.new.self.items c.in-EndedBy.end c.end_of_body.result none c.end_of_body.ensures h)
+    (end_step here S n c.args.heap.now c.end_of_body.new.heap w c.args.pending.now.items c.pop.new.self.items c.in-EndedBy.end c.in_ok-answer-in-None.answer none (c.in_ok-answer-in-None.ensures.answers c.args.cells.now w same h))
 
-pub returns-in-None-clause-stacked : goal.returns-in-None-clause-stacked
-returns-in-None-clause-stacked g c =
+pub returns-in_ok-answer-in-None-clause-stacked : goal.returns-in_ok-answer-in-None-clause-stacked
+returns-in_ok-answer-in-None-clause-stacked g c =
     stacked_none c.args.pending.now.items c.pop.new.self.items _ c.requires (sym (append-nil c.pop.new.self.items) ∙ sym c.in-None.ensures.items)
 
 pub wake-requires : goal.wake-requires
@@ -35,11 +35,11 @@ returns-in-Some-clause-next g c = λ S n w is same h.
 pub returns-in-At-clause-sound : goal.returns-in-At-clause-sound
 returns-in-At-clause-sound g c = λ w same h current items. let job = rw c.in-At.is at current in c.advance.ensures.sound w same h job items
 
-pub returns-in-None-clause-sound : goal.returns-in-None-clause-sound
-returns-in-None-clause-sound g c = λ w same h current items.
+pub returns-in_ok-answer-in-None-clause-sound : goal.returns-in_ok-answer-in-None-clause-sound
+returns-in_ok-answer-in-None-clause-sound g c = λ w same h current items.
     let here = context c.args.script.now c.args.body c.args.cells.now in
     let end = rw c.in-EndedBy.is at current in
-    body_sound here c.args.heap.now w c.pop.new.self.items c.in-EndedBy.end c.end_of_body.result c.end_of_body.ensures h end
+    body_sound here c.args.heap.now c.end_of_body.new.heap w c.args.pending.now.items c.pop.new.self.items c.in-EndedBy.end c.in_ok-answer-in-None.answer (c.in_ok-answer-in-None.ensures.answers c.args.cells.now w same h) end items
 
 pub returns-in-Some-clause-sound : goal.returns-in-Some-clause-sound
 returns-in-Some-clause-sound g c = λ w same h current items.

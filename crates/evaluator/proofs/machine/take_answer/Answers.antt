@@ -1,3 +1,4 @@
+use Rattle.std.specs.Prelude.{is_some}
 use Rattle.std.proofs.Common.{◌+◌, sym, subst, refl, arith, length}
 use Rattle.std.proofs.Math.Seq.{take-length}
 use Rattle.es_model.specs.Completions.{answered}
@@ -52,7 +53,7 @@ pub returns-in-Err-clause-sound : goal.returns-in-Err-clause-sound
 returns-in-Err-clause-sound g c = λ w same h kept items.
     let here = context c.args.script.now c.args.body c.args.cells in
     let plans = rw c.in-Err.is at (c.asked_plan.ensures.plans w h) in
-    sound_stops c.args.script.now here c.args.heap.now c.asked_plan.new.heap w c.args.pending.items c.in-Err.stop
+    sound_stops (is_some c.args.body.constructs) c.args.script.now here c.args.heap.now c.asked_plan.new.heap w c.args.pending.items c.in-Err.stop
     (stop_sound here here here (asked_program here c.args.asked (answered c.args.answer)) c.args.heap.now c.asked_plan.new.heap w c.args.pending.items c.in-Err.stop kept plans)
 
 pub returns-in-Err-follow-clause-sound : goal.returns-in-Err-follow-clause-sound
@@ -62,7 +63,7 @@ returns-in-Err-follow-clause-sound g c = λ w same h kept items.
     let p = asked_program here c.args.asked (answered c.args.answer) in
     let scope : IsInner here here = record { same = refl; front = take-length c.args.cells } in
     let step = c.follow.ensures.sound here here p c.args.heap.now c.asked_plan.new.heap w scope c.len-depth.ensures c.len-depth.ensures kept items plans in
-    let stops = rw c.in-Err-follow.is at step in sound_stops c.args.script.now here c.args.heap.now c.asked_plan.new.heap w c.follow.new.pending.items c.in-Err-follow.stop stops
+    let stops = rw c.in-Err-follow.is at step in sound_stops (is_some c.args.body.constructs) c.args.script.now here c.args.heap.now c.asked_plan.new.heap w c.follow.new.pending.items c.in-Err-follow.stop stops
 
 pub returns-in-Ok-follow-clause-sound : goal.returns-in-Ok-follow-clause-sound
 returns-in-Ok-follow-clause-sound g c = λ w same h kept items.
