@@ -11,9 +11,10 @@ use Rattle.es_model.specs.Unwinding.{unwind}
 use Rattle.es_model.specs.World.{World}
 use Rattle.es_model.proofs.Carried.{IsCarried, run-carried, world-plus}
 use Rattle.es_model.proofs.Rests.{leaves-changed, charged-printed, printed-more}
+use Rattle.evaluator.specs.declared.frames.EvalFrame.TheVariants as frame
 use Rattle.evaluator.specs.declared.frames.Pending.{Pending}
 use Rattle.evaluator.specs.Contexts.{Context, context}
-use Rattle.evaluator.specs.Functions.{body_ended, script_program}
+use Rattle.evaluator.specs.Functions.{body_ended, construct_answered, script_program}
 use Rattle.evaluator.specs.Machine.{pending_rest, unwound, within}
 use Rattle.evaluator.specs.Plans.{asked_program, item_program}
 use Rattle.ordinary_object.specs.Rests as ordinary
@@ -59,15 +60,16 @@ program-prints p n w = run-carried HasPrinted carried model keeps-printed p n w
 -- a body that runs, with the items that wait in it
 body-prints : (here : Context) (pending : List Pending) (n : ℕ) (p : Program) (w : World) → HasPrinted w (world_of (unwound here model n pending (run model p n w)))
 body-prints here pending n p w =
-    printed-after w (unwind (pending_rest here model n) pending (run model p n w)) (λ c v. run model (body_ended c) n v)
+    printed-after w (unwind (pending_rest here model n) pending (run model p n w)) (λ c v. run model (body_ended here c) n v)
     (printed-unwound (pending_rest here model n) (λ i c v. program-prints (item_program (within here i.depth) i.item c) n v) pending (run model p n w) w (program-prints p n w))
-    (λ c v. program-prints (body_ended c) n v)
+    (λ c v. program-prints (body_ended here c) n v)
 
 -- one line for each crate of frames
 frame-prints : (script : Tree) (f : Frame) (n : ℕ) (c : Completion) (w : World) → HasPrinted w (world_of (frame_rest script f model n c w))
 frame-prints script (Ordinary f) n c w = program-prints (ordinary.program_after f c) n w
 frame-prints script (Plain f) n c w = program-prints (plain.program_after f c) n w
-frame-prints script (Running f) n c w = body-prints (context script f.body f.cells) f.pending n (asked_program (context script f.body f.cells) f.asked c) w
+frame-prints script (Running (frame.Body f)) n c w = body-prints (context script f.body f.cells) f.pending n (asked_program (context script f.body f.cells) f.asked c) w
+frame-prints script (Running (frame.Constructing k)) n c w = program-prints (construct_answered script k.function k.callee k.arguments k.target c) n w
 
 hand-prints : (script : Tree) (state : State) (w : World) → HasPrinted w (world_of (in_hand script model state w))
 hand-prints script Starting w = program-prints (script_program script) 0 w

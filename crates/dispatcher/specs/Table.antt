@@ -48,7 +48,7 @@ callee_service l other = Begins Plain
 
 -- a construction, in the same way
 abbrev pub construct_service : ObjectKind → Service
-construct_service (kind_of.Function function constructor strict) = if constructor then Enters Unwritten else Begins Plain
+construct_service (kind_of.Function function constructor strict) = if constructor then Enters (Running function) else Begins Plain
 construct_service (kind_of.Builtin row constructor proxy) = if constructor then Enters Unwritten else Begins Plain
 construct_service (kind_of.Proxy target handler callable constructor) = if constructor then Enters Unwritten else Begins Plain
 construct_service other = Begins Plain
@@ -79,6 +79,7 @@ called_program script function other this arguments = unwritten
 
 abbrev pub body_program : Tree → FunctionNo → Request → Program
 body_program script function (Call f this arguments) = called_program script function f this arguments
+body_program script function (Construct f arguments target) = functions.construct_program script function f arguments target
 body_program script function other = unwritten
 
 abbrev pub begin_program : Tree → Provider → Request → Program

@@ -12,7 +12,7 @@ ghost use Rattle.dispatcher.specs.Table.{body_program, called_program};
 
 use es_model::{Completion, Request, Stop, Turn, Values};
 use es_tree::{Checked, FunctionNo};
-use evaluator::{EvalFrame, start_body};
+use evaluator::{EvalFrame, start_body, start_construction};
 use object_heap::Heap;
 use property_keys::{Ledger, Steps, Value};
 
@@ -40,7 +40,7 @@ fn begin_call<L: Ledger>(
     }
 }
 
-/// The first turn of the body of a function that is called. No other request comes here.
+/// The first turn of the body of a function that is called, or of a construction. No other request comes here.
 #[tactic(auto, using(object_heap::specs::Stands::goes_none, crate::proofs::Jobs::unwritten_turn))]
 pub(crate) fn begin_body<L: Ledger>(
     heap: &mut Heap,
@@ -57,6 +57,11 @@ pub(crate) fn begin_body<L: Ledger>(
             this,
             arguments,
         } => begin_call(heap, script, function, callee, this, arguments, steps),
+        Request::Construct {
+            function: callee,
+            arguments,
+            target,
+        } => start_construction(heap, script, function, callee, arguments, target),
         Request::GetOwn { .. }
         | Request::Define { .. }
         | Request::Has { .. }
@@ -68,7 +73,6 @@ pub(crate) fn begin_body<L: Ledger>(
         | Request::SetProto { .. }
         | Request::Extensible { .. }
         | Request::Prevent { .. }
-        | Request::Construct { .. }
         | Request::Work { .. }
         | Request::Print { .. } => Ok(Turn::Done(Completion::Throw(Value::Undefined))),
     }

@@ -90,9 +90,18 @@ fn construct_service(kind: &ObjectKind) -> Service
     ensures { result ≡ construct_service kind.now }
 {
     match kind {
-        ObjectKind::Function { constructor, .. }
-        | ObjectKind::Builtin { constructor, .. }
-        | ObjectKind::Proxy { constructor, .. } => {
+        ObjectKind::Function {
+            function,
+            constructor,
+            ..
+        } => {
+            if *constructor {
+                Service::Enters(Provider::Running(*function))
+            } else {
+                Service::Begins(Provider::Plain)
+            }
+        }
+        ObjectKind::Builtin { constructor, .. } | ObjectKind::Proxy { constructor, .. } => {
             if *constructor {
                 Service::Enters(Provider::Unwritten)
             } else {

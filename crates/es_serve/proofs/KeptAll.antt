@@ -1,11 +1,13 @@
 -- Every algorithm keeps worlds sound.
-use Rattle.std.proofs.Common.{◌≡◌, ℕ, true, Option, Some, None, List, refl, sym, subst, arith}
+use Rattle.std.proofs.Common.{◌≡◌, ◌≤◌, ℕ, true, Option, Some, None, List, length, refl, sym, subst, arith}
 use Rattle.std.specs.Prelude.{codes}
 use Rattle.property_keys.specs.declared.identifiers.ObjectId.{ObjectId}
 use Rattle.property_keys.specs.declared.keys.PropKey.{PropKey}
 use Rattle.property_keys.specs.declared.values.Value.{Value}
 use Rattle.property_keys.specs.declared.values.Value.TheVariants as value
+use Rattle.es_tree.specs.declared.numbers.FunctionNo.{FunctionNo}
 use Rattle.es_tree.specs.declared.numbers.SiteId.{SiteId}
+use Rattle.es_tree.specs.Tree.{Tree, top_names}
 use Rattle.es_model.specs.declared.kinds.ErrorKind.TheVariants as error
 use Rattle.es_model.specs.declared.kinds.ObjectKind.{ObjectKind}
 use Rattle.es_model.specs.declared.kinds.ObjectKind.TheVariants as kind_of
@@ -17,9 +19,9 @@ use Rattle.es_model.specs.Grows.{Grows}
 use Rattle.es_model.specs.World.{World, kind}
 use Rattle.es_model.specs.Changes.{Accessing, changed, charged, printed_more}
 use Rattle.es_model.specs.Program.{Program, change, Of, Evaluating, Statements, Round}
-use Rattle.es_model.specs.Known.{AreKnown, IfThere}
-use Rattle.es_model.specs.Sound.{IsSound}
-use Rattle.es_model.specs.Kept.{FitsTask, IsKept, KeepsEachBy}
+use Rattle.es_model.specs.Known.{AreKnown, IfThere, IsKnown, IsObject}
+use Rattle.es_model.specs.Sound.{IsRightKind, IsSound}
+use Rattle.es_model.specs.Kept.{FitsTask, IsKept, IsLater, KeepsEachBy}
 use Rattle.es_model.specs.programs.Errors.{entering, unwritten, not_a_function, not_a_constructor}
 use Rattle.es_model.proofs.Growing.{grows_none, grows-changed}
 use Rattle.es_model.proofs.KnownLater.{object-later, key-later, known-later}
@@ -31,14 +33,20 @@ use Rattle.ordinary_object.specs.Serving.{is_ordinary}
 use Rattle.ordinary_object.proofs.Kept.{ordinary_kept}
 use Rattle.plain_builtins.specs.Plain.{row_program}
 use Rattle.plain_builtins.proofs.KeptPlain.{row-kept, work-kept}
+use Rattle.evaluator.specs.Functions as functions
+use Rattle.evaluator.proofs.FunctionsKept.{FitsAs, call_fits, call_program_kept, construct_fits, construct_program_kept}
 use Rattle.evaluator.proofs.TasksKept.{node-kept, statements-kept, round-kept}
+use Rattle.evaluator.proofs.WordsKept.{later-charged, object-stays, value-stays, values-stay}
 use Rattle.es_serve.specs.Lines.{line_bytes}
 use Rattle.es_serve.specs.Serve.{method_of, method_program, is_counted, noting, call_of, call_program, construct_of, request_program, program_of}
 
+-- what is entered goes on after a turn, and below it is the test of the nested calls
+entered-kept : (q : Request) (w : World) (body : Program) → IsSound w → ((v : World) → IsSound v → IsLater w v → IsKept (FitsTask (Of q)) body v) → IsKept (FitsTask (Of q)) (entering body) w
+entered-kept q w body s f =
+    let s1 = sound-charged w 1 s in (s.intact, (f (charged w 1) s1 (later-charged w), error-kept (Of q) (charged w 1) error.RangeError (codes "too many nested calls") s1 (omega arith)))
+
 entering-kept : (q : Request) (w : World) → IsSound w → IsKept (FitsTask (Of q)) (entering unwritten) w
-entering-kept q w s =
-    let s1 = sound-charged w 1 s in
-    (s.intact, ((s1, tt), error-kept (Of q) (charged w 1) error.RangeError (codes "too many nested calls") s1 (omega arith)))
+entering-kept q w s = entered-kept q w unwritten s (λ v sv l. (sv, tt))
 
 no_function-kept : (q : Request) (w : World) → IsSound w → IsKept (FitsTask (Of q)) not_a_function w
 no_function-kept q w s = error-kept (Of q) w error.TypeError (codes "not a function") s (omega arith)
@@ -67,42 +75,60 @@ noting-kept q w (Some site) way o k r p s f =
 
 -- a built-in function is entered
 row_entered-kept : (g this : Value) (arguments : List Value) (row : ℕ) (w : World) → IsSound w → AreKnown w.lists arguments → IsKept (FitsTask (Of (Call g this arguments))) (entering (row_program row arguments)) w
-unfolding charged
-row_entered-kept g this arguments row w s known =
-    let s1 = sound-charged w 1 s in
-    (s.intact, (row-kept g this arguments row (charged w 1) s1 known, error-kept (Of (Call g this arguments)) (charged w 1) error.RangeError (codes "too many nested calls") s1 (omega arith)))
+row_entered-kept g this arguments row w s known = entered-kept (Call g this arguments) w (row_program row arguments) s (λ v sv l. row-kept g this arguments row v sv (values-stay w v l arguments known))
 
-call_of-kept : (g : Value) (w : World) (k : ObjectKind) (f : ObjectId) (this : Value) (arguments : List Value) → IsSound w → AreKnown w.lists arguments → IsKept (FitsTask (Of (Call g this arguments))) (call_of w.script k f this arguments) w
-call_of-kept g w kind_of.Ordinary f this arguments s known = no_function-kept (Call g this arguments) w s
-call_of-kept g w (kind_of.Function function constructor strict) f this arguments s known = entering-kept (Call g this arguments) w s
-call_of-kept g w (kind_of.Builtin row constructor proxy) f this arguments s known = row_entered-kept g this arguments row w s known
-call_of-kept g w kind_of.Array f this arguments s known = no_function-kept (Call g this arguments) w s
-call_of-kept g w (kind_of.Text t) f this arguments s known = no_function-kept (Call g this arguments) w s
-call_of-kept g w (kind_of.Wrapper v) f this arguments s known = no_function-kept (Call g this arguments) w s
-call_of-kept g w (kind_of.Arguments cells) f this arguments s known = no_function-kept (Call g this arguments) w s
-call_of-kept g w kind_of.Error f this arguments s known = no_function-kept (Call g this arguments) w s
-call_of-kept g w (kind_of.Proxy target handler callable constructor) f this arguments s known =
+-- the cells of the top scope stay
+top-stays : (script : Tree) (w v : World) → IsLater w v → top_names script ≤ length w.lists.cells → top_names script ≤ length v.lists.cells
+top-stays script w v l top = let more = l.lists.cells in omega arith
+
+-- a function of the script is entered
+function_entered-kept : (g : Value) (w : World) (function : FunctionNo) (f : ObjectId) (this : Value) (arguments : List Value) → IsSound w → top_names w.script ≤ length w.lists.cells → IsObject w.lists f → IsKnown w.lists this →
+    AreKnown w.lists arguments → IsKept (FitsTask (Of (Call g this arguments))) (entering (functions.call_program w.script function f this arguments)) w
+function_entered-kept g w function f this arguments s top there known all =
+    entered-kept (Call g this arguments) w (functions.call_program w.script function f this arguments) s (λ v sv l.
+    call_program_kept (Of (Call g this arguments)) w.script v function f this arguments (call_fits g this arguments) l.script sv (top-stays w.script w v l top) (object-stays w v l f there) (value-stays w v l this known) (values-stay w v l arguments all))
+
+call_of-kept : (g : Value) (w : World) (k : ObjectKind) (f : ObjectId) (this : Value) (arguments : List Value) → IsSound w → IsRightKind w.script w.lists f k → IsObject w.lists f → IsKnown w.lists this → AreKnown w.lists arguments →
+    IsKept (FitsTask (Of (Call g this arguments))) (call_of w.script k f this arguments) w
+call_of-kept g w kind_of.Ordinary f this arguments s right there this-known known = no_function-kept (Call g this arguments) w s
+call_of-kept g w (kind_of.Function function constructor strict) f this arguments s right there this-known known =
+    function_entered-kept g w function f this arguments s right.1 there this-known known
+call_of-kept g w (kind_of.Builtin row constructor proxy) f this arguments s right there this-known known = row_entered-kept g this arguments row w s known
+call_of-kept g w kind_of.Array f this arguments s right there this-known known = no_function-kept (Call g this arguments) w s
+call_of-kept g w (kind_of.Text t) f this arguments s right there this-known known = no_function-kept (Call g this arguments) w s
+call_of-kept g w (kind_of.Wrapper v) f this arguments s right there this-known known = no_function-kept (Call g this arguments) w s
+call_of-kept g w (kind_of.Arguments cells) f this arguments s right there this-known known = no_function-kept (Call g this arguments) w s
+call_of-kept g w kind_of.Error f this arguments s right there this-known known = no_function-kept (Call g this arguments) w s
+call_of-kept g w (kind_of.Proxy target handler callable constructor) f this arguments s right there this-known known =
     kept-if (FitsTask (Of (Call g this arguments))) w callable _ _ (entering-kept (Call g this arguments) w s) (no_function-kept (Call g this arguments) w s)
 
-call-kept : (w : World) (f this : Value) (arguments : List Value) → IsSound w → AreKnown w.lists arguments → IsKept (FitsTask (Of (Call f this arguments))) (call_program w.script f this arguments) w
-call-kept w (value.Object o) this arguments s known = call_of-kept (value.Object o) w (kind w.lists o) o this arguments s known
-call-kept w value.Undefined this arguments s known = no_function-kept (Call value.Undefined this arguments) w s
-call-kept w value.Null this arguments s known = no_function-kept (Call value.Null this arguments) w s
-call-kept w (value.Bool b) this arguments s known = no_function-kept (Call (value.Bool b) this arguments) w s
-call-kept w (value.Whole n) this arguments s known = no_function-kept (Call (value.Whole n) this arguments) w s
-call-kept w (value.Text t) this arguments s known = no_function-kept (Call (value.Text t) this arguments) w s
-call-kept w (value.Symbol y) this arguments s known = no_function-kept (Call (value.Symbol y) this arguments) w s
+call-kept : (w : World) (f this : Value) (arguments : List Value) → IsSound w → IsKnown w.lists f → IsKnown w.lists this → AreKnown w.lists arguments → IsKept (FitsTask (Of (Call f this arguments))) (call_program w.script f this arguments) w
+call-kept w (value.Object o) this arguments s there this-known known = call_of-kept (value.Object o) w (kind w.lists o) o this arguments s (s.kinds o there) there this-known known
+call-kept w value.Undefined this arguments s there this-known known = no_function-kept (Call value.Undefined this arguments) w s
+call-kept w value.Null this arguments s there this-known known = no_function-kept (Call value.Null this arguments) w s
+call-kept w (value.Bool b) this arguments s there this-known known = no_function-kept (Call (value.Bool b) this arguments) w s
+call-kept w (value.Whole n) this arguments s there this-known known = no_function-kept (Call (value.Whole n) this arguments) w s
+call-kept w (value.Text t) this arguments s there this-known known = no_function-kept (Call (value.Text t) this arguments) w s
+call-kept w (value.Symbol y) this arguments s there this-known known = no_function-kept (Call (value.Symbol y) this arguments) w s
 
-construct_of-kept : (q : Request) (w : World) (k : ObjectKind) (f : ObjectId) (arguments : List Value) (target : ObjectId) → IsSound w → IsKept (FitsTask (Of q)) (construct_of w.script k f arguments target) w
-construct_of-kept q w kind_of.Ordinary f arguments target s = no_constructor-kept q w s
-construct_of-kept q w (kind_of.Function function constructor strict) f arguments target s = kept-if (FitsTask (Of q)) w constructor _ _ (entering-kept q w s) (no_constructor-kept q w s)
-construct_of-kept q w (kind_of.Builtin row constructor proxy) f arguments target s = kept-if (FitsTask (Of q)) w constructor _ _ (entering-kept q w s) (no_constructor-kept q w s)
-construct_of-kept q w kind_of.Array f arguments target s = no_constructor-kept q w s
-construct_of-kept q w (kind_of.Text t) f arguments target s = no_constructor-kept q w s
-construct_of-kept q w (kind_of.Wrapper v) f arguments target s = no_constructor-kept q w s
-construct_of-kept q w (kind_of.Arguments cells) f arguments target s = no_constructor-kept q w s
-construct_of-kept q w kind_of.Error f arguments target s = no_constructor-kept q w s
-construct_of-kept q w (kind_of.Proxy t handler callable constructor) f arguments target s = kept-if (FitsTask (Of q)) w constructor _ _ (entering-kept q w s) (no_constructor-kept q w s)
+constructor_entered-kept : (q : Request) (w : World) (function : FunctionNo) (f : ObjectId) (arguments : List Value) (target : ObjectId) → FitsAs (Of q) true → IsSound w → top_names w.script ≤ length w.lists.cells → IsObject w.lists f →
+    AreKnown w.lists arguments → IsObject w.lists target → IsKept (FitsTask (Of q)) (entering (functions.construct_program w.script function f arguments target)) w
+constructor_entered-kept q w function f arguments target fits s top there known new =
+    entered-kept q w (functions.construct_program w.script function f arguments target) s (λ v sv l.
+    construct_program_kept (Of q) w.script v function f arguments target fits l.script sv (top-stays w.script w v l top) (object-stays w v l f there) (values-stay w v l arguments known) (object-stays w v l target new))
+
+construct_of-kept : (q : Request) (w : World) (k : ObjectKind) (f : ObjectId) (arguments : List Value) (target : ObjectId) → FitsAs (Of q) true → IsSound w → IsRightKind w.script w.lists f k → IsObject w.lists f →
+    AreKnown w.lists arguments → IsObject w.lists target → IsKept (FitsTask (Of q)) (construct_of w.script k f arguments target) w
+construct_of-kept q w kind_of.Ordinary f arguments target fits s right there known new = no_constructor-kept q w s
+construct_of-kept q w (kind_of.Function function constructor strict) f arguments target fits s right there known new =
+    kept-if (FitsTask (Of q)) w constructor _ _ (constructor_entered-kept q w function f arguments target fits s right.1 there known new) (no_constructor-kept q w s)
+construct_of-kept q w (kind_of.Builtin row constructor proxy) f arguments target fits s right there known new = kept-if (FitsTask (Of q)) w constructor _ _ (entering-kept q w s) (no_constructor-kept q w s)
+construct_of-kept q w kind_of.Array f arguments target fits s right there known new = no_constructor-kept q w s
+construct_of-kept q w (kind_of.Text t) f arguments target fits s right there known new = no_constructor-kept q w s
+construct_of-kept q w (kind_of.Wrapper v) f arguments target fits s right there known new = no_constructor-kept q w s
+construct_of-kept q w (kind_of.Arguments cells) f arguments target fits s right there known new = no_constructor-kept q w s
+construct_of-kept q w kind_of.Error f arguments target fits s right there known new = no_constructor-kept q w s
+construct_of-kept q w (kind_of.Proxy t handler callable constructor) f arguments target fits s right there known new = kept-if (FitsTask (Of q)) w constructor _ _ (entering-kept q w s) (no_constructor-kept q w s)
 
 -- ---- every request
 
@@ -131,8 +157,9 @@ request-kept (Proto o) w s h = object-kept (Proto o) w o s h refl
 request-kept (SetProto o p) w s h = object-kept (SetProto o p) w o s h refl
 request-kept (Extensible o) w s h = object-kept (Extensible o) w o s h refl
 request-kept (Prevent o) w s h = object-kept (Prevent o) w o s h refl
-request-kept (Call f this arguments) w s h = call-kept w f this arguments s h.2
-request-kept (Construct f arguments target) w s h = construct_of-kept (Construct f arguments target) w (kind w.lists f) f arguments target s
+request-kept (Call f this arguments) w s h = call-kept w f this arguments s h.0 h.1 h.2
+request-kept (Construct f arguments target) w s h =
+    construct_of-kept (Construct f arguments target) w (kind w.lists f) f arguments target (construct_fits f arguments target) s (s.kinds f h.0) h.0 h.1 h.2
 request-kept (Work operation operands) w s h = work-kept operation operands w s h.1
 request-kept (Print line) w s h = (sound-printed w (line_bytes w.lists line) s, (tt, tt))
 

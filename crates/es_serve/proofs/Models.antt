@@ -17,8 +17,8 @@ use Rattle.es_model.proofs.Runs as runs
 use Rattle.es_model.proofs.StartSound.{start-sound}
 use Rattle.es_model.proofs.Within.{renewed-enough}
 use Rattle.evaluator.specs.Functions.{script_program}
-use Rattle.evaluator.proofs.TasksKept.{script-kept}
-use Rattle.evaluator.proofs.TasksWithin.{script-within}
+use Rattle.evaluator.proofs.FunctionsKept.{script-kept}
+use Rattle.evaluator.proofs.FunctionsWithin.{script-within}
 use Rattle.evaluator.proofs.WordsWithin.{within-whole}
 use Rattle.es_serve.specs.Run.{RunsArePaid, RunsStaySound}
 use Rattle.es_serve.specs.Serve.{program_of, model}
@@ -69,7 +69,7 @@ model-counts = counts.model-counts program_of programs-within programs-charge_fi
 pub runs-paid : RunsArePaid
 runs-paid w =
     let enough = renewed-enough w.script in
-    let within = within-whole (renewed w.script) 2 (script_program w.script) (script-within (renewed w.script) 2 w.script (omega arith)) in
+    let within = within-whole (renewed w.script) 2 (script_program w.script) (script-within (renewed w.script) 2 w.script (omega arith) (omega arith)) in
     let all = counts.run-counts w.script model keeps-script (model-counts w.script) (script_program w.script) 2 0 w refl within in omega arith
 
 pub runs-sound : RunsStaySound

@@ -22,6 +22,8 @@ use Rattle.es_model.proofs.Within.{within-cond, renewed-enough}
 use Rattle.ordinary_object.proofs.OrdinaryWithin.{ordinary-within}
 use Rattle.plain_builtins.specs.Plain.{row_program}
 use Rattle.plain_builtins.proofs.PlainWithin.{row-within, work-within}
+use Rattle.evaluator.specs.Functions as functions
+use Rattle.evaluator.proofs.FunctionsWithin.{call_program-within, construct_program-within}
 use Rattle.evaluator.proofs.TasksWithin.{node-within, statements-within, round-within}
 use Rattle.es_serve.specs.Serve.{method_of, is_counted, noting, call_of, call_program, construct_of, request_program, program_of}
 
@@ -32,8 +34,12 @@ no_function-within r b = λ a c d e. tt
 no_constructor-within : (r b : ℕ) → IsWithin r b not_a_constructor
 no_constructor-within r b = λ a c d e. tt
 
+-- a charge renews the budget for what is entered
+entered-within : (r b : ℕ) (body : Program) → IsWithin r r body → IsWithin r b (entering body)
+entered-within r b body h = (h, λ a c d e. tt)
+
 entering-within : (r b : ℕ) → IsWithin r b (entering unwritten)
-entering-within r b = (tt, λ a c d e. tt)
+entering-within r b = entered-within r b unwritten tt
 
 method-within : (r : ℕ) → 200 ≤ r → (k : ObjectKind) (q : Request) → IsWithin r (request_weight q) (method_of k q)
 method-within r enough kind_of.Ordinary q = ordinary-within r enough q
@@ -52,11 +58,12 @@ noting-within r b (Some site) way o k v p h = λ l. within-cond r b (is_counted 
 
 -- a built-in function is entered
 row_entered-within : (r b : ℕ) → 200 ≤ r → (row : ℕ) (arguments : List Value) → IsWithin r b (entering (row_program row arguments))
-row_entered-within r b enough row arguments = (row-within r enough row arguments, λ a c d e. tt)
+row_entered-within r b enough row arguments = entered-within r b (row_program row arguments) (row-within r enough row arguments)
 
 call_of-within : (r : ℕ) → 200 ≤ r → (script : Tree) (k : ObjectKind) (f : ObjectId) (this : Value) (arguments : List Value) → IsWithin r 0 (call_of script k f this arguments)
 call_of-within r enough script kind_of.Ordinary f this arguments = no_function-within r 0
-call_of-within r enough script (kind_of.Function function constructor strict) f this arguments = entering-within r 0
+call_of-within r enough script (kind_of.Function function constructor strict) f this arguments =
+    entered-within r 0 (functions.call_program script function f this arguments) (call_program-within r r script function f this arguments (omega arith) (omega arith))
 call_of-within r enough script (kind_of.Builtin row constructor proxy) f this arguments = row_entered-within r 0 enough row arguments
 call_of-within r enough script kind_of.Array f this arguments = no_function-within r 0
 call_of-within r enough script (kind_of.Text t) f this arguments = no_function-within r 0
@@ -75,18 +82,19 @@ call-within r enough script (value.Whole n) this arguments = no_function-within 
 call-within r enough script (value.Text t) this arguments = no_function-within r 0
 call-within r enough script (value.Symbol s) this arguments = no_function-within r 0
 
-construct_of-within : (r : ℕ) (script : Tree) (k : ObjectKind) (f : ObjectId) (arguments : List Value) (target : ObjectId) → IsWithin r 0 (construct_of script k f arguments target)
-construct_of-within r script kind_of.Ordinary f arguments target = no_constructor-within r 0
-construct_of-within r script (kind_of.Function function constructor strict) f arguments target =
+construct_of-within : (r : ℕ) → 200 ≤ r → (script : Tree) (k : ObjectKind) (f : ObjectId) (arguments : List Value) (target : ObjectId) → IsWithin r 0 (construct_of script k f arguments target)
+construct_of-within r enough script kind_of.Ordinary f arguments target = no_constructor-within r 0
+construct_of-within r enough script (kind_of.Function function constructor strict) f arguments target =
+    within-cond r 0 constructor (entering (functions.construct_program script function f arguments target)) not_a_constructor
+    (entered-within r 0 (functions.construct_program script function f arguments target) (construct_program-within r r script function f arguments target (omega arith) (omega arith))) (no_constructor-within r 0)
+construct_of-within r enough script (kind_of.Builtin row constructor proxy) f arguments target =
     within-cond r 0 constructor (entering unwritten) not_a_constructor (entering-within r 0) (no_constructor-within r 0)
-construct_of-within r script (kind_of.Builtin row constructor proxy) f arguments target =
-    within-cond r 0 constructor (entering unwritten) not_a_constructor (entering-within r 0) (no_constructor-within r 0)
-construct_of-within r script kind_of.Array f arguments target = no_constructor-within r 0
-construct_of-within r script (kind_of.Text t) f arguments target = no_constructor-within r 0
-construct_of-within r script (kind_of.Wrapper v) f arguments target = no_constructor-within r 0
-construct_of-within r script (kind_of.Arguments cells) f arguments target = no_constructor-within r 0
-construct_of-within r script kind_of.Error f arguments target = no_constructor-within r 0
-construct_of-within r script (kind_of.Proxy t handler callable constructor) f arguments target =
+construct_of-within r enough script kind_of.Array f arguments target = no_constructor-within r 0
+construct_of-within r enough script (kind_of.Text t) f arguments target = no_constructor-within r 0
+construct_of-within r enough script (kind_of.Wrapper v) f arguments target = no_constructor-within r 0
+construct_of-within r enough script (kind_of.Arguments cells) f arguments target = no_constructor-within r 0
+construct_of-within r enough script kind_of.Error f arguments target = no_constructor-within r 0
+construct_of-within r enough script (kind_of.Proxy t handler callable constructor) f arguments target =
     within-cond r 0 constructor (entering unwritten) not_a_constructor (entering-within r 0) (no_constructor-within r 0)
 
 request-within : (r : ℕ) → 200 ≤ r → (script : Tree) (q : Request) → IsWithin r (request_weight q) (request_program script q)
@@ -104,7 +112,7 @@ request-within r enough script (SetProto o p) = λ l. method-within r enough (ki
 request-within r enough script (Extensible o) = λ l. method-within r enough (kind l o) (Extensible o)
 request-within r enough script (Prevent o) = λ l. method-within r enough (kind l o) (Prevent o)
 request-within r enough script (Call f this arguments) = call-within r enough script f this arguments
-request-within r enough script (Construct f arguments target) = λ l. construct_of-within r script (kind l f) f arguments target
+request-within r enough script (Construct f arguments target) = λ l. construct_of-within r enough script (kind l f) f arguments target
 request-within r enough script (Work op operands) = work-within r enough op operands
 request-within r enough script (Print line) = λ l. tt
 

@@ -34,6 +34,5 @@ mod values;
 mod writing;
 
 pub use frames::EvalFrame;
-
 pub use references::{Arithmetic, Finish, Invocation, Reference};
 pub use turns::{resume, start_body, start_construction, start_script};

@@ -2,6 +2,7 @@
 
 mod budgets;
 mod endings;
+mod functions;
 mod host;
 mod limits;
 mod memory;

@@ -1,7 +1,8 @@
--- What of a script does not run yet: functions, methods, accessors and array literals.
-use Rattle.std.specs.Prelude.{Bool, true, false, if◌then◌else◌, Option, Some, None, List, [], ◌∷◌}
+-- What of a script does not run yet: array literals, and functions whose code uses `arguments`.
+use Rattle.std.specs.Prelude.{Bool, true, false, if◌then◌else◌, Option, Some, None, List, [], ◌∷◌, map}
 use Rattle.es_source.specs.declared.place.Place.{Place}
 use Rattle.es_source.specs.Places.{is_before}
+use Rattle.es_tree.specs.declared.body.Body.{Body}
 use Rattle.es_tree.specs.declared.facts.FunctionFacts.{FunctionFacts}
 use Rattle.es_tree.specs.declared.node.Node.{Node}
 use Rattle.es_tree.specs.declared.node.Node.TheVariants as node
@@ -17,15 +18,18 @@ abbrev pub is_array : Node → Bool
 is_array (node.Primary p) = is_array_literal p
 is_array other = false
 
--- the `[` of each array literal, of nodes with the places of their first tokens
-abbrev pub array_places : List Node → List Place → List Place
-array_places (n ∷ ns) (p ∷ ps) = if is_array n then p ∷ array_places ns ps else array_places ns ps
-array_places ns ps = []
+-- whether the code of a function uses the name `arguments`
+abbrev pub uses_arguments : Body → Bool
+uses_arguments code = code.arguments
 
--- the first token of each function, method and accessor
+-- the places of those things of a list of which something holds
+abbrev pub places_where : {A : Type 0} → (A → Bool) → List A → List Place → List Place
+places_where holds (x ∷ xs) (p ∷ ps) = if holds x then p ∷ places_where holds xs ps else places_where holds xs ps
+places_where holds xs ps = []
+
+-- the first tokens of functions, methods and accessors
 abbrev pub function_places : List FunctionFacts → List Place
-function_places [] = []
-function_places (f ∷ fs) = f.place ∷ function_places fs
+function_places functions = map (λ (f : FunctionFacts). f.place) functions
 
 -- the earlier one of a place that was found and another
 abbrev pub earlier : Option Place → Place → Option Place
@@ -37,6 +41,6 @@ abbrev pub earliest : Option Place → List Place → Option Place
 earliest found [] = found
 earliest found (p ∷ ps) = earliest (earlier found p) ps
 
--- the least place of what does not run yet
+-- the least place of what does not run yet: the `[` of an array literal, or the first token of a function whose code uses `arguments`
 abbrev pub unbuilt : Tree → Option Place
-unbuilt tree = earliest (earliest None (array_places tree.nodes tree.places)) (function_places tree.functions)
+unbuilt tree = earliest (earliest None (places_where is_array tree.nodes tree.places)) (places_where uses_arguments tree.bodies (function_places tree.functions))

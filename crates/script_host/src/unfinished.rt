@@ -1,13 +1,13 @@
 //! What of a checked script does not run yet.
 
 ghost use Rattle.std.specs.Prelude.{◌≡◌, None, if◌then◌else◌};
-ghost use Rattle.script_host.specs.Unbuilt.{array_places, earlier, earliest, function_places, is_array, unbuilt};
+ghost use Rattle.script_host.specs.Unbuilt.{earlier, earliest, function_places, is_array, places_where, unbuilt, uses_arguments};
 
 use es_source::Place;
 use es_tree::{Checked, FunctionNo, Node, NodeId, Primary};
 
-/// Where the first construct stands that does not run yet: the least place among the first token of each function, method and accessor and the `[` of each
-/// array literal, and None exactly where there is none of these. It takes no memory.
+/// Where the first construct stands that does not run yet: the least place among the `[` of each array literal and the first token of each function, method
+/// and accessor whose code uses `arguments`, and None exactly where there is none of these. It takes no memory.
 pub fn unbuilt(script: &Checked) -> Option<Place>
     ensures { result ≡ unbuilt script.now }
 {
@@ -36,36 +36,33 @@ fn is_array(node: &Node) -> bool
 
 // The least place of an array literal.
 fn first_array(script: &Checked) -> Option<Place>
-    ensures { result ≡ earliest None (array_places script.now.nodes script.now.places) }
+    ensures { result ≡ earliest None (places_where is_array script.now.nodes script.now.places) }
 {
     let mut found = None;
     for n in 0..script.nodes() {
         let place = script.place(NodeId(n));
-        found = with_array(found, script.node(NodeId(n)), place);
+        found = with_place(found, is_array(script.node(NodeId(n))), place);
     }
     found
 }
 
-// The earlier one of what was found and a node's place, where the node is an array literal.
-fn with_array(found: Option<Place>, node: &Node, place: Place) -> Option<Place>
-    ensures { result ≡ (if is_array node.now then earlier found place else found) }
-{
-    if is_array(node) {
-        earlier(found, place)
-    } else {
-        found
-    }
-}
-
-// The least place of a function, a method or an accessor, or the one that was found before.
+// The least place of a function whose code uses `arguments`, or the one that was found before.
 fn first_function(script: &Checked, before: Option<Place>) -> Option<Place>
-    ensures { result ≡ earliest before (function_places script.now.functions) }
+    ensures { result ≡ earliest before (places_where uses_arguments script.now.bodies (function_places script.now.functions)) }
 {
     let mut found = before;
     for f in 0..script.functions() {
-        found = earlier(found, script.function(FunctionNo(f)).place);
+        let place = script.function(FunctionNo(f)).place;
+        found = with_place(found, script.body(FunctionNo(f)).arguments, place);
     }
     found
+}
+
+// The earlier one of what was found and a place, where that counts.
+fn with_place(found: Option<Place>, counts: bool, place: Place) -> Option<Place>
+    ensures { result ≡ (if counts then earlier found place else found) }
+{
+    if counts { earlier(found, place) } else { found }
 }
 
 fn earlier(found: Option<Place>, place: Place) -> Option<Place>

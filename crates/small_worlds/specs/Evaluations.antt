@@ -173,7 +173,7 @@ served answers (suc d) n (Round body force m) w = run (served answers d) (round_
 -- ---- the body: two cells are in force
 
 abbrev pub body_of : Bool → Running
-body_of strict = record { function = None; callee = None; arguments = None; this = object 9; strict = strict }
+body_of strict = record { function = None; callee = None; arguments = None; this = object 9; constructs = None; strict = strict }
 
 abbrev pub in_force : List CellNo
 in_force = record { 0 = 0 } ∷ record { 0 = 1 } ∷ []

@@ -164,40 +164,8 @@ struct Refused {
     note: &'static str,
 }
 
-// No fault, and a function, a method, an accessor or an array literal: the first of them is told.
+// No fault, and an array literal, or a function, a method or an accessor whose code uses `arguments`: the first of them is told.
 static UNBUILT: &[Refused] = &[
-    Refused {
-        file: "let o = {};\nprint(o.a); function f() {}\nprint(1);\n",
-        note: "hcjs: 2:13: not built\n",
-    },
-    Refused {
-        file: "function f() {}\nlet o = {};\n",
-        note: "hcjs: 1:1: not built\n",
-    },
-    Refused {
-        file: "print(1);\n(function f() { f; });",
-        note: "hcjs: 2:2: not built\n",
-    },
-    Refused {
-        file: "let o = { a() {} };",
-        note: "hcjs: 1:11: not built\n",
-    },
-    Refused {
-        file: "let o = { get a() { return 1; } };",
-        note: "hcjs: 1:11: not built\n",
-    },
-    Refused {
-        file: "let o = { b: 1, set a(x) {} };",
-        note: "hcjs: 1:17: not built\n",
-    },
-    Refused {
-        file: "let o = { [1]() {} };",
-        note: "hcjs: 1:11: not built\n",
-    },
-    Refused {
-        file: "let o = { __proto__: null, __proto__() {} };",
-        note: "hcjs: 1:28: not built\n",
-    },
     Refused {
         file: "let a = [];",
         note: "hcjs: 1:9: not built\n",
@@ -206,10 +174,10 @@ static UNBUILT: &[Refused] = &[
         file: "if (false) { [1, , 2]; }",
         note: "hcjs: 1:14: not built\n",
     },
-    // one in the other, and one behind the other
+    // in a function, and beside one
     Refused {
         file: "let f = function () { return [1]; };",
-        note: "hcjs: 1:9: not built\n",
+        note: "hcjs: 1:30: not built\n",
     },
     Refused {
         file: "let a = [function () {}];",
@@ -221,27 +189,52 @@ static UNBUILT: &[Refused] = &[
     },
     Refused {
         file: "function f() {}\nprint([]);",
-        note: "hcjs: 1:1: not built\n",
+        note: "hcjs: 2:7: not built\n",
     },
     Refused {
         file: "let o = { m() {}, a: [] };",
-        note: "hcjs: 1:11: not built\n",
+        note: "hcjs: 1:22: not built\n",
     },
     Refused {
         file: "let o = { a: [], m() {} };",
         note: "hcjs: 1:14: not built\n",
     },
-    // near to a fault, and none
+    // the function whose own code uses `arguments`
     Refused {
-        file: "function a() {} function a() {}",
+        file: "function f() { arguments; }\nprint(1);",
         note: "hcjs: 1:1: not built\n",
     },
     Refused {
-        file: "let a; (function() { return function() { a; }; });",
-        note: "hcjs: 1:9: not built\n",
+        file: "print(1);\n(function f() { return arguments; });",
+        note: "hcjs: 2:2: not built\n",
     },
     Refused {
         file: "function f() { return function() { this; arguments; }; }",
+        note: "hcjs: 1:23: not built\n",
+    },
+    Refused {
+        file: "let o = { m() { return arguments; } };",
+        note: "hcjs: 1:11: not built\n",
+    },
+    Refused {
+        file: "let o = { get a() { return arguments; } };",
+        note: "hcjs: 1:11: not built\n",
+    },
+    Refused {
+        file: "let o = { b: 1, set a(x) { arguments; } };",
+        note: "hcjs: 1:17: not built\n",
+    },
+    Refused {
+        file: "let o = { [1]() { arguments; } };",
+        note: "hcjs: 1:11: not built\n",
+    },
+    // the first of both
+    Refused {
+        file: "print([]); function f() { arguments; }",
+        note: "hcjs: 1:7: not built\n",
+    },
+    Refused {
+        file: "function f() { arguments; } print([]);",
         note: "hcjs: 1:1: not built\n",
     },
 ];
