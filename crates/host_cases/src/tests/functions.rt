@@ -117,10 +117,10 @@ static RUNNING: &[Script] = &[
         file: "let o = {get a(){ throw 1; }}; try { o.a; } catch (e) { print(e); } try { ({b: o.a, c: print('no')}); } catch (e) { print('again', e); }",
         out: "1\nagain 1\n",
     },
-    // a parameter may have the name, and outside of functions it is a name as any other
+    // outside of functions `arguments` is a name as any other
     Script {
-        file: "function f(arguments){ return arguments; } print(f(7), typeof arguments);",
-        out: "7 undefined\n",
+        file: "print(typeof arguments);",
+        out: "undefined\n",
     },
     // functions that nothing calls
     Script {
