@@ -313,6 +313,7 @@ fixed-start intrinsic.Proxy = refl
 fixed-start intrinsic.ThrowTypeError = refl
 fixed-start intrinsic.Reflect = refl
 fixed-start intrinsic.Print = refl
+fixed-start (intrinsic.Function f) = refl
 
 start-there : (i : Intrinsic) → IsObject start_lists (object_of i) × (fixed_kind (kind start_lists (object_of i)) ≡ start_kind i)
 start-there i =

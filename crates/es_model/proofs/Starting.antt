@@ -4,6 +4,7 @@ use Rattle.es_model.specs.declared.kinds.ErrorKind.TheVariants as error
 use Rattle.es_model.specs.declared.intrinsics.Class.TheVariants as class
 use Rattle.es_model.specs.declared.intrinsics.Intrinsic.{Intrinsic}
 use Rattle.es_model.specs.declared.intrinsics.Intrinsic.TheVariants as intrinsic
+use Rattle.es_model.specs.declared.builtin_functions.BuiltinFunction.TheVariants as function
 use Rattle.es_model.specs.declared.start_texts.StartText.{StartText}
 use Rattle.es_model.specs.declared.start_texts.StartText.TheVariants as start_text
 use Rattle.es_model.specs.declared.start_texts.WellKnown.TheVariants as symbol
@@ -43,6 +44,18 @@ object-stands intrinsic.Proxy = refl
 object-stands intrinsic.ThrowTypeError = refl
 object-stands intrinsic.Reflect = refl
 object-stands intrinsic.Print = refl
+object-stands (intrinsic.Function function.FunctionCall) = refl
+object-stands (intrinsic.Function function.FunctionApply) = refl
+object-stands (intrinsic.Function function.FunctionHasInstance) = refl
+object-stands (intrinsic.Function function.NumberToString) = refl
+object-stands (intrinsic.Function function.NumberValueOf) = refl
+object-stands (intrinsic.Function function.BooleanToString) = refl
+object-stands (intrinsic.Function function.BooleanValueOf) = refl
+object-stands (intrinsic.Function function.SymbolToString) = refl
+object-stands (intrinsic.Function function.SymbolValueOf) = refl
+object-stands (intrinsic.Function function.SymbolDescription) = refl
+object-stands (intrinsic.Function function.SymbolToPrimitive) = refl
+object-stands (intrinsic.Function function.ErrorToString) = refl
 
 pub objects-are-in-order : ObjectsAreInOrder
 objects-are-in-order = (object-stands, refl)
@@ -82,6 +95,14 @@ text-stands (start_text.Class (class.Error error.RangeError)) = refl
 text-stands (start_text.Class (class.Error error.ReferenceError)) = refl
 text-stands (start_text.Class (class.Error error.SyntaxError)) = refl
 text-stands start_text.Print = refl
+text-stands start_text.Call = refl
+text-stands start_text.Apply = refl
+text-stands start_text.ToString = refl
+text-stands start_text.ValueOf = refl
+text-stands start_text.SymbolDescription = refl
+text-stands start_text.GetDescription = refl
+text-stands start_text.HasInstanceMethod = refl
+text-stands start_text.ToPrimitiveMethod = refl
 
 text-found : (t : StartText) → text_place start_texts (units_of_start t) ≡ text_number t
 text-found start_text.Length = refl
@@ -113,6 +134,14 @@ text-found (start_text.Class (class.Error error.RangeError)) = refl
 text-found (start_text.Class (class.Error error.ReferenceError)) = refl
 text-found (start_text.Class (class.Error error.SyntaxError)) = refl
 text-found start_text.Print = refl
+text-found start_text.Call = refl
+text-found start_text.Apply = refl
+text-found start_text.ToString = refl
+text-found start_text.ValueOf = refl
+text-found start_text.SymbolDescription = refl
+text-found start_text.GetDescription = refl
+text-found start_text.HasInstanceMethod = refl
+text-found start_text.ToPrimitiveMethod = refl
 
 pub texts-are-in-order : TextsAreInOrder
 texts-are-in-order t = (text-stands t, text-found t)

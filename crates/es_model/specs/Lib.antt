@@ -1,4 +1,5 @@
 pub mod Belongs
+pub mod BuiltinFunctions
 pub mod Builtins
 pub mod Changes
 pub mod Completions

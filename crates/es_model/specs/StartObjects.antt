@@ -1,4 +1,5 @@
--- The numbers of the start objects: the global object, then a constructor and its prototype object for each class, then the others (ECMA-262, 6.1.7.4).
+-- The numbers of the start objects: the global object, then a constructor and its prototype object for each class, then the others, and the built-in functions
+-- that are no constructors (ECMA-262, 6.1.7.4).
 use Rattle.std.specs.Prelude.{ℕ, ◌+◌, ◌*◌}
 use Rattle.property_keys.specs.declared.identifiers.ObjectId.{ObjectId}
 use Rattle.es_model.specs.declared.kinds.ErrorKind.{ErrorKind}
@@ -7,6 +8,7 @@ use Rattle.es_model.specs.declared.intrinsics.Class.{Class}
 use Rattle.es_model.specs.declared.intrinsics.Class.TheVariants as class
 use Rattle.es_model.specs.declared.intrinsics.Intrinsic.{Intrinsic}
 use Rattle.es_model.specs.declared.intrinsics.Intrinsic.TheVariants as intrinsic
+use Rattle.es_model.specs.BuiltinFunctions.{function_place}
 
 abbrev pub error_place : ErrorKind → ℕ
 error_place error.Error = 0
@@ -33,10 +35,11 @@ start_number intrinsic.Proxy = 25
 start_number intrinsic.ThrowTypeError = 26
 start_number intrinsic.Reflect = 27
 start_number intrinsic.Print = 28
+start_number (intrinsic.Function f) = 29 + function_place f
 
 -- how many there are
 abbrev pub start_objects : ℕ
-start_objects = 29
+start_objects = 41
 
 abbrev pub object_of : Intrinsic → ObjectId
 object_of i = record { 0 = start_number i }

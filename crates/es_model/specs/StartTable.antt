@@ -1,5 +1,5 @@
 -- The start objects (ECMA-262, 18 to 28) and their properties, in the order of their creation. A property whose value, getter or setter is a built-in function
--- comes with that function: no property holds a constructor yet.
+-- comes with that function.
 use Rattle.std.specs.Prelude.{ℕ, pos, Bool, true, false, if◌then◌else◌, Option, Some, None, List, [], ◌∷◌}
 use Rattle.property_keys.specs.declared.keys.PropKey.{PropKey}
 use Rattle.property_keys.specs.declared.keys.PropKey.TheVariants.{Name, Sym}
@@ -15,10 +15,13 @@ use Rattle.es_model.specs.declared.intrinsics.Class.{Class}
 use Rattle.es_model.specs.declared.intrinsics.Class.TheVariants as class
 use Rattle.es_model.specs.declared.intrinsics.Intrinsic.{Intrinsic}
 use Rattle.es_model.specs.declared.intrinsics.Intrinsic.TheVariants as intrinsic
+use Rattle.es_model.specs.declared.builtin_functions.BuiltinFunction.{BuiltinFunction}
+use Rattle.es_model.specs.declared.builtin_functions.BuiltinFunction.TheVariants as function
 use Rattle.es_model.specs.declared.start_texts.StartText.{StartText}
 use Rattle.es_model.specs.declared.start_texts.StartText.TheVariants as start_text
 use Rattle.es_model.specs.declared.start_texts.WellKnown.{WellKnown}
 use Rattle.es_model.specs.declared.start_texts.WellKnown.TheVariants as symbol
+use Rattle.es_model.specs.BuiltinFunctions.{function_parameters, function_text}
 use Rattle.es_model.specs.StartObjects.{object_of, start_number}
 use Rattle.es_model.specs.StartTexts.{symbol_of, text_of}
 
@@ -48,6 +51,7 @@ start_kind intrinsic.Proxy = builtin intrinsic.Proxy true
 start_kind intrinsic.ThrowTypeError = builtin intrinsic.ThrowTypeError false
 start_kind intrinsic.Reflect = kind_of.Ordinary
 start_kind intrinsic.Print = builtin intrinsic.Print false
+start_kind (intrinsic.Function f) = builtin (intrinsic.Function f) false
 
 -- ---- their prototypes
 
@@ -76,6 +80,7 @@ start_parent intrinsic.Proxy = Some (intrinsic.Prototype class.Function)
 start_parent intrinsic.ThrowTypeError = Some (intrinsic.Prototype class.Function)
 start_parent intrinsic.Reflect = Some (intrinsic.Prototype class.Object)
 start_parent intrinsic.Print = Some (intrinsic.Prototype class.Function)
+start_parent (intrinsic.Function f) = Some (intrinsic.Prototype class.Function)
 
 -- all are extensible but %ThrowTypeError% (10.2.4.1)
 abbrev pub start_extensible : Intrinsic → Bool
@@ -116,6 +121,29 @@ text_value t = value.Text (text_of t)
 abbrev pub well_known : WellKnown → OwnProperty
 well_known s = fixed (start_text.Symbol s) (value.Symbol (symbol_of s))
 
+-- a constructor on the global object (19.3)
+abbrev pub constructor_of : Class → OwnProperty
+constructor_of c = hidden (start_text.Class c) (object (intrinsic.Constructor c))
+
+-- the constructor on its prototype object
+abbrev pub constructor_back : Class → OwnProperty
+constructor_back c = hidden start_text.Constructor (object (intrinsic.Constructor c))
+
+-- a method under a text, writable and configurable
+abbrev pub method : StartText → BuiltinFunction → OwnProperty
+method t f = hidden t (object (intrinsic.Function f))
+
+-- a method under a well-known Symbol
+abbrev pub method_of_symbol : Bool → WellKnown → BuiltinFunction → OwnProperty
+method_of_symbol configurable s f = stored false configurable (Sym (symbol_of s)) (object (intrinsic.Function f))
+
+-- an accessor without a setter, configurable only
+abbrev pub getter : StartText → BuiltinFunction → OwnProperty
+getter t f = record {
+  key = Name (text_of t);
+  complete = complete.Accessor (Some (object_of (intrinsic.Function f))) None false true;
+}
+
 -- ---- the table
 
 -- 19.1, 19.3, 19.4, and the function that prints a line
@@ -124,6 +152,15 @@ global_properties =
     hidden start_text.GlobalThis (object intrinsic.Global)
     ∷ fixed start_text.Undefined value.Undefined
     ∷ hidden start_text.Print (object intrinsic.Print)
+    ∷ constructor_of class.Function
+    ∷ constructor_of class.Number
+    ∷ constructor_of class.Boolean
+    ∷ constructor_of class.Symbol
+    ∷ constructor_of (class.Error error.Error)
+    ∷ constructor_of (class.Error error.TypeError)
+    ∷ constructor_of (class.Error error.RangeError)
+    ∷ constructor_of (class.Error error.ReferenceError)
+    ∷ constructor_of (class.Error error.SyntaxError)
     ∷ hidden start_text.Reflect (object intrinsic.Reflect)
     ∷ []
 
@@ -146,19 +183,52 @@ constructor_properties c =
     then constructor_with c 0 (well_known symbol.HasInstance ∷ well_known symbol.ToPrimitive ∷ well_known symbol.ToStringTag ∷ [])
     else constructor_with c 1 []
 
+abbrev pub is_error_itself : ErrorKind → Bool
+is_error_itself error.Error = true
+is_error_itself other = false
+
+abbrev pub error_prototype_with : ErrorKind → List OwnProperty → List OwnProperty
+error_prototype_with e rest =
+    constructor_back (class.Error e)
+    ∷ hidden start_text.Name (text_value (start_text.Class (class.Error e)))
+    ∷ hidden start_text.Message (text_value start_text.Empty)
+    ∷ rest
+
 abbrev pub prototype_properties : Class → List OwnProperty
 prototype_properties class.Function =
     readonly start_text.Length (value.Whole (pos 0))
     ∷ readonly start_text.Name (text_value start_text.Empty)
+    ∷ constructor_back class.Function
+    ∷ method start_text.Call function.FunctionCall
+    ∷ method start_text.Apply function.FunctionApply
+    ∷ method_of_symbol false symbol.HasInstance function.FunctionHasInstance
     ∷ []
 prototype_properties class.Array = stored true false (Name (text_of start_text.Length)) (value.Whole (pos 0)) ∷ []
 prototype_properties class.String = fixed start_text.Length (value.Whole (pos 0)) ∷ []
-prototype_properties class.Symbol = tag (start_text.Class class.Symbol) ∷ []
-prototype_properties (class.Error e) =
-    hidden start_text.Name (text_value (start_text.Class (class.Error e)))
-    ∷ hidden start_text.Message (text_value start_text.Empty)
+prototype_properties class.Number =
+    constructor_back class.Number
+    ∷ method start_text.ToString function.NumberToString
+    ∷ method start_text.ValueOf function.NumberValueOf
     ∷ []
-prototype_properties other = []
+prototype_properties class.Boolean =
+    constructor_back class.Boolean
+    ∷ method start_text.ToString function.BooleanToString
+    ∷ method start_text.ValueOf function.BooleanValueOf
+    ∷ []
+prototype_properties class.Symbol =
+    constructor_back class.Symbol
+    ∷ method start_text.ToString function.SymbolToString
+    ∷ method start_text.ValueOf function.SymbolValueOf
+    ∷ getter start_text.SymbolDescription function.SymbolDescription
+    ∷ method_of_symbol true symbol.ToPrimitive function.SymbolToPrimitive
+    ∷ tag (start_text.Class class.Symbol)
+    ∷ []
+prototype_properties (class.Error e) =
+    -- Error's prototype alone has toString (20.5.3.4): those of the four kinds inherit it
+    if is_error_itself e
+    then error_prototype_with e (method start_text.ToString function.ErrorToString ∷ [])
+    else error_prototype_with e []
+prototype_properties class.Object = []
 
 abbrev pub start_properties : Intrinsic → List OwnProperty
 start_properties intrinsic.Global = global_properties
@@ -176,4 +246,8 @@ start_properties intrinsic.Reflect = tag start_text.Reflect ∷ []
 start_properties intrinsic.Print =
     readonly start_text.Length (value.Whole (pos 0))
     ∷ readonly start_text.Name (text_value start_text.Print)
+    ∷ []
+start_properties (intrinsic.Function f) =
+    readonly start_text.Length (value.Whole (pos (function_parameters f)))
+    ∷ readonly start_text.Name (text_value (function_text f))
     ∷ []

@@ -30,6 +30,14 @@ text_number (start_text.Symbol s) = 10 + symbol_number s
 text_number (start_text.Description s) = 13 + symbol_number s
 text_number (start_text.Class c) = 16 + class_place c
 text_number start_text.Print = 28
+text_number start_text.Call = 29
+text_number start_text.Apply = 30
+text_number start_text.ToString = 31
+text_number start_text.ValueOf = 32
+text_number start_text.SymbolDescription = 33
+text_number start_text.GetDescription = 34
+text_number start_text.HasInstanceMethod = 35
+text_number start_text.ToPrimitiveMethod = 36
 
 abbrev pub symbol_of : WellKnown → SymbolId
 symbol_of s = record { 0 = symbol_number s }
@@ -68,6 +76,14 @@ units_of_start (start_text.Class (class.Error error.RangeError)) = codes "RangeE
 units_of_start (start_text.Class (class.Error error.ReferenceError)) = codes "ReferenceError"
 units_of_start (start_text.Class (class.Error error.SyntaxError)) = codes "SyntaxError"
 units_of_start start_text.Print = codes "print"
+units_of_start start_text.Call = codes "call"
+units_of_start start_text.Apply = codes "apply"
+units_of_start start_text.ToString = codes "toString"
+units_of_start start_text.ValueOf = codes "valueOf"
+units_of_start start_text.SymbolDescription = codes "description"
+units_of_start start_text.GetDescription = codes "get description"
+units_of_start start_text.HasInstanceMethod = codes "[Symbol.hasInstance]"
+units_of_start start_text.ToPrimitiveMethod = codes "[Symbol.toPrimitive]"
 
 -- in the order of their numbers
 abbrev pub all_start_texts : List StartText
@@ -82,7 +98,9 @@ all_start_texts =
     ∷ start_text.Class class.Boolean ∷ start_text.Class class.Symbol ∷ start_text.Class (class.Error error.Error)
     ∷ start_text.Class (class.Error error.TypeError)
     ∷ start_text.Class (class.Error error.RangeError) ∷ start_text.Class (class.Error error.ReferenceError)
-    ∷ start_text.Class (class.Error error.SyntaxError) ∷ start_text.Print ∷ []
+    ∷ start_text.Class (class.Error error.SyntaxError) ∷ start_text.Print
+    ∷ start_text.Call ∷ start_text.Apply ∷ start_text.ToString ∷ start_text.ValueOf ∷ start_text.SymbolDescription
+    ∷ start_text.GetDescription ∷ start_text.HasInstanceMethod ∷ start_text.ToPrimitiveMethod ∷ []
 
 abbrev pub start_texts : List (List ℕ)
 start_texts = map units_of_start all_start_texts

@@ -1,12 +1,13 @@
 -- The world in which a run begins.
-use Rattle.std.specs.Prelude.{ℕ, option_map, List, [], ◌∷◌, map}
+use Rattle.std.specs.Prelude.{ℕ, option_map, List, [], ◌∷◌, ◌++◌, map}
 use Rattle.es_model.specs.declared.kinds.ErrorKind.TheVariants as error
 use Rattle.es_model.specs.declared.intrinsics.Class.TheVariants as class
 use Rattle.es_model.specs.declared.intrinsics.Intrinsic.{Intrinsic}
-use Rattle.es_model.specs.declared.intrinsics.Intrinsic.TheVariants.{Global, Constructor, Prototype, Proxy, ThrowTypeError, Reflect, Print}
+use Rattle.es_model.specs.declared.intrinsics.Intrinsic.TheVariants.{Global, Constructor, Prototype, Proxy, ThrowTypeError, Reflect, Print, Function}
 use Rattle.es_tree.specs.Tree.{Tree}
 use Rattle.es_model.specs.Objects.{Object}
 use Rattle.es_model.specs.World.{Lists, World}
+use Rattle.es_model.specs.BuiltinFunctions.{all_builtin_functions}
 use Rattle.es_model.specs.StartObjects.{object_of}
 use Rattle.es_model.specs.StartTexts.{start_texts, start_symbols}
 use Rattle.es_model.specs.StartTable.{start_kind, start_parent, start_extensible, start_properties}
@@ -27,7 +28,7 @@ all_intrinsics =
     ∷ Constructor (class.Error error.RangeError) ∷ Prototype (class.Error error.RangeError)
     ∷ Constructor (class.Error error.ReferenceError) ∷ Prototype (class.Error error.ReferenceError)
     ∷ Constructor (class.Error error.SyntaxError) ∷ Prototype (class.Error error.SyntaxError)
-    ∷ Proxy ∷ ThrowTypeError ∷ Reflect ∷ Print ∷ []
+    ∷ Proxy ∷ ThrowTypeError ∷ Reflect ∷ Print ∷ map Function all_builtin_functions
 
 abbrev pub start_object : Intrinsic → Object
 start_object i = record {

@@ -3,7 +3,7 @@
 ghost use Rattle.std.specs.Prelude.{◌≡◌};
 ghost use Rattle.es_model.specs.StartObjects.{class_place, error_place, object_of};
 
-use crate::ErrorKind;
+use crate::{BuiltinFunction, ErrorKind};
 use property_keys::ObjectId;
 
 /// What has a constructor and a prototype object among the start objects.
@@ -31,6 +31,7 @@ pub enum Intrinsic {
     Reflect,
     /// The function that prints a line.
     Print,
+    Function(BuiltinFunction),
 }
 
 impl Intrinsic {
@@ -46,6 +47,7 @@ impl Intrinsic {
             Intrinsic::ThrowTypeError => ObjectId(26),
             Intrinsic::Reflect => ObjectId(27),
             Intrinsic::Print => ObjectId(28),
+            Intrinsic::Function(function) => ObjectId(29 + function.place()),
         }
     }
 }

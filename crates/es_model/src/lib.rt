@@ -4,6 +4,7 @@
 
 mod answers;
 mod budget;
+mod builtin_functions;
 mod callables;
 mod intrinsics;
 mod kinds;
@@ -21,6 +22,7 @@ mod taken;
 
 pub use answers::{Completion, Halted, Reply, Stop, Turn};
 pub use budget::Turns;
+pub use builtin_functions::BuiltinFunction;
 pub use callables::Method;
 pub use intrinsics::{Class, Intrinsic};
 pub use kinds::{CellNo, ErrorKind, ObjectKind};

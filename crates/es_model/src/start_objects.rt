@@ -14,7 +14,7 @@ ghost use Rattle.es_model.specs.StartTable.{
 ghost use Rattle.es_model.specs.StartWorld.{all_intrinsics};
 
 use crate::nth::nth;
-use crate::{Class, ErrorKind, Intrinsic, ObjectKind, StartText};
+use crate::{BuiltinFunction, Class, ErrorKind, Intrinsic, ObjectKind, StartText};
 use property_keys::{ObjectId, Value};
 
 impl Intrinsic {
@@ -26,7 +26,9 @@ impl Intrinsic {
             Intrinsic::Global | Intrinsic::Reflect => ObjectKind::Ordinary,
             Intrinsic::Prototype(class) => kind_of_prototype(class),
             Intrinsic::Constructor(_) | Intrinsic::Proxy => self.function(true),
-            Intrinsic::ThrowTypeError | Intrinsic::Print => self.function(false),
+            Intrinsic::ThrowTypeError | Intrinsic::Print | Intrinsic::Function(_) => self.function(
+                false,
+            ),
         }
     }
 
@@ -55,9 +57,10 @@ impl Intrinsic {
             Intrinsic::Global | Intrinsic::Reflect => Some(Intrinsic::Prototype(Class::Object)),
             Intrinsic::Constructor(class) => Some(parent_of_constructor(class)),
             Intrinsic::Prototype(class) => parent_of_prototype(class),
-            Intrinsic::Proxy | Intrinsic::ThrowTypeError | Intrinsic::Print => {
-                Some(Intrinsic::Prototype(Class::Function))
-            }
+            Intrinsic::Proxy
+            | Intrinsic::ThrowTypeError
+            | Intrinsic::Print
+            | Intrinsic::Function(_) => { Some(Intrinsic::Prototype(Class::Function)) }
         }
     }
 
@@ -148,6 +151,18 @@ pub fn start_intrinsic(n: usize) -> Option<Intrinsic>
         Intrinsic::ThrowTypeError,
         Intrinsic::Reflect,
         Intrinsic::Print,
+        Intrinsic::Function(BuiltinFunction::FunctionCall),
+        Intrinsic::Function(BuiltinFunction::FunctionApply),
+        Intrinsic::Function(BuiltinFunction::FunctionHasInstance),
+        Intrinsic::Function(BuiltinFunction::NumberToString),
+        Intrinsic::Function(BuiltinFunction::NumberValueOf),
+        Intrinsic::Function(BuiltinFunction::BooleanToString),
+        Intrinsic::Function(BuiltinFunction::BooleanValueOf),
+        Intrinsic::Function(BuiltinFunction::SymbolToString),
+        Intrinsic::Function(BuiltinFunction::SymbolValueOf),
+        Intrinsic::Function(BuiltinFunction::SymbolDescription),
+        Intrinsic::Function(BuiltinFunction::SymbolToPrimitive),
+        Intrinsic::Function(BuiltinFunction::ErrorToString),
     ];
     nth(&all, n)
 }

@@ -2,13 +2,21 @@
 
 ghost use Rattle.std.specs.Prelude.{◌≡◌, slice_get};
 ghost use Rattle.property_keys.specs.declared.keys.PropKey.TheVariants.{Name};
+ghost use Rattle.es_model.specs.declared.intrinsics.Class.TheVariants as class;
 ghost use Rattle.es_model.specs.StartTexts.{text_of};
 ghost use Rattle.es_model.specs.StartTable.{
+  constructor_back,
+  constructor_of,
   constructor_properties,
   fixed,
+  getter,
   global_properties,
   hidden,
   is_class_of_symbols,
+  is_error_itself,
+  method,
+  method_of_symbol,
+  object,
   prototype_properties,
   readonly,
   start_properties,
@@ -19,7 +27,7 @@ ghost use Rattle.es_model.specs.StartTable.{
 };
 
 use crate::nth::nth;
-use crate::{Class, Intrinsic, OwnProperty, StartText, WellKnown};
+use crate::{BuiltinFunction, Class, ErrorKind, Intrinsic, OwnProperty, StartText, WellKnown};
 use descriptors::Complete;
 use property_keys::{Attributes, PropKey, Value};
 
@@ -54,6 +62,13 @@ impl Intrinsic {
                 ],
                 n,
             ),
+            Intrinsic::Function(function) => nth(
+                &[
+                    readonly(StartText::Length, Value::Whole(function.parameters())),
+                    readonly(StartText::Name, text(function.text())),
+                ],
+                n,
+            ),
         }
     }
 }
@@ -62,16 +77,19 @@ fn of_global(n: usize) -> Option<OwnProperty>
     ensures { result ≡ slice_get global_properties n }
 {
     let all = [
-        hidden(
-            StartText::GlobalThis,
-            Value::Object(Intrinsic::Global.object()),
-        ),
+        hidden(StartText::GlobalThis, object(Intrinsic::Global)),
         fixed(StartText::Undefined, Value::Undefined),
-        hidden(StartText::Print, Value::Object(Intrinsic::Print.object())),
-        hidden(
-            StartText::Reflect,
-            Value::Object(Intrinsic::Reflect.object()),
-        ),
+        hidden(StartText::Print, object(Intrinsic::Print)),
+        constructor_of(Class::Function),
+        constructor_of(Class::Number),
+        constructor_of(Class::Boolean),
+        constructor_of(Class::Symbol),
+        constructor_of(Class::Error(ErrorKind::Error)),
+        constructor_of(Class::Error(ErrorKind::TypeError)),
+        constructor_of(Class::Error(ErrorKind::RangeError)),
+        constructor_of(Class::Error(ErrorKind::ReferenceError)),
+        constructor_of(Class::Error(ErrorKind::SyntaxError)),
+        hidden(StartText::Reflect, object(Intrinsic::Reflect)),
     ];
     nth(&all, n)
 }
@@ -80,10 +98,7 @@ fn of_constructor(class: Class, n: usize) -> Option<OwnProperty>
     ensures { result ≡ slice_get (constructor_properties class) n }
 {
     let name = readonly(StartText::Name, text(StartText::Class(class)));
-    let prototype = fixed(
-        StartText::Prototype,
-        Value::Object(Intrinsic::Prototype(class).object()),
-    );
+    let prototype = fixed(StartText::Prototype, object(Intrinsic::Prototype(class)));
     if is_class_of_symbols(class) {
         let all = [
             readonly(StartText::Length, Value::Whole(0)),
@@ -112,11 +127,21 @@ fn of_prototype(class: Class, n: usize) -> Option<OwnProperty>
     ensures { result ≡ slice_get (prototype_properties class) n }
 {
     match class {
-        Class::Object | Class::Number | Class::Boolean => nth(&[], n),
-        Class::Function => nth(
+        Class::Object => nth(&[], n),
+        Class::Function => of_functions(n),
+        Class::Number => nth(
             &[
-                readonly(StartText::Length, Value::Whole(0)),
-                readonly(StartText::Name, text(StartText::Empty)),
+                constructor_back(class),
+                method(StartText::ToString, BuiltinFunction::NumberToString),
+                method(StartText::ValueOf, BuiltinFunction::NumberValueOf),
+            ],
+            n,
+        ),
+        Class::Boolean => nth(
+            &[
+                constructor_back(class),
+                method(StartText::ToString, BuiltinFunction::BooleanToString),
+                method(StartText::ValueOf, BuiltinFunction::BooleanValueOf),
             ],
             n,
         ),
@@ -125,14 +150,130 @@ fn of_prototype(class: Class, n: usize) -> Option<OwnProperty>
             n,
         ),
         Class::String => nth(&[fixed(StartText::Length, Value::Whole(0))], n),
-        Class::Symbol => nth(&[tag(StartText::Class(class))], n),
-        Class::Error(_) => nth(
-            &[
-                hidden(StartText::Name, text(StartText::Class(class))),
-                hidden(StartText::Message, text(StartText::Empty)),
-            ],
-            n,
+        Class::Symbol => of_symbols(n),
+        Class::Error(kind) => of_errors(kind, n),
+    }
+}
+
+fn of_functions(n: usize) -> Option<OwnProperty>
+    ensures { result ≡ slice_get (prototype_properties class.Function) n }
+{
+    let all = [
+        readonly(StartText::Length, Value::Whole(0)),
+        readonly(StartText::Name, text(StartText::Empty)),
+        constructor_back(Class::Function),
+        method(StartText::Call, BuiltinFunction::FunctionCall),
+        method(StartText::Apply, BuiltinFunction::FunctionApply),
+        method_of_symbol(
+            false,
+            WellKnown::HasInstance,
+            BuiltinFunction::FunctionHasInstance,
         ),
+    ];
+    nth(&all, n)
+}
+
+fn of_symbols(n: usize) -> Option<OwnProperty>
+    ensures { result ≡ slice_get (prototype_properties class.Symbol) n }
+{
+    let all = [
+        constructor_back(Class::Symbol),
+        method(StartText::ToString, BuiltinFunction::SymbolToString),
+        method(StartText::ValueOf, BuiltinFunction::SymbolValueOf),
+        getter(
+            StartText::SymbolDescription,
+            BuiltinFunction::SymbolDescription,
+        ),
+        method_of_symbol(
+            true,
+            WellKnown::ToPrimitive,
+            BuiltinFunction::SymbolToPrimitive,
+        ),
+        tag(StartText::Class(Class::Symbol)),
+    ];
+    nth(&all, n)
+}
+
+/// Error's prototype alone has toString: those of the four kinds inherit it.
+fn of_errors(kind: ErrorKind, n: usize) -> Option<OwnProperty>
+    ensures { result ≡ slice_get (prototype_properties (class.Error kind)) n }
+{
+    let back = constructor_back(Class::Error(kind));
+    let name = hidden(StartText::Name, text(StartText::Class(Class::Error(kind))));
+    let message = hidden(StartText::Message, text(StartText::Empty));
+    if is_error_itself(kind) {
+        let own = method(StartText::ToString, BuiltinFunction::ErrorToString);
+        return nth(&[back, name, message, own], n);
+    }
+    nth(&[back, name, message], n)
+}
+
+fn is_error_itself(kind: ErrorKind) -> bool
+    ensures { result ≡ is_error_itself kind }
+{
+    match kind {
+        ErrorKind::Error => true,
+        _ => false,
+    }
+}
+
+fn object(it: Intrinsic) -> Value
+    ensures { result ≡ object it }
+{
+    Value::Object(it.object())
+}
+
+/// A constructor on the global object.
+fn constructor_of(class: Class) -> OwnProperty
+    ensures { result ≡ constructor_of class }
+{
+    hidden(
+        StartText::Class(class),
+        object(Intrinsic::Constructor(class)),
+    )
+}
+
+/// The constructor on its prototype object.
+fn constructor_back(class: Class) -> OwnProperty
+    ensures { result ≡ constructor_back class }
+{
+    hidden(
+        StartText::Constructor,
+        object(Intrinsic::Constructor(class)),
+    )
+}
+
+/// A method under a text, writable and configurable.
+fn method(key: StartText, function: BuiltinFunction) -> OwnProperty
+    ensures { result ≡ method key function }
+{
+    hidden(key, object(Intrinsic::Function(function)))
+}
+
+/// A method under a well-known Symbol.
+fn method_of_symbol(configurable: bool, symbol: WellKnown, function: BuiltinFunction) -> OwnProperty
+    ensures { result ≡ method_of_symbol configurable symbol function }
+{
+    stored(
+        false,
+        configurable,
+        PropKey::Sym(symbol.symbol()),
+        object(Intrinsic::Function(function)),
+    )
+}
+
+/// An accessor without a setter, configurable only.
+fn getter(key: StartText, function: BuiltinFunction) -> OwnProperty
+    ensures { result ≡ getter key function }
+{
+    OwnProperty {
+        key: name(key),
+        complete: Complete::Accessor {
+            get: Some(Intrinsic::Function(function).object()),
+            set: None,
+            enumerable: false,
+            configurable: true,
+        },
     }
 }
 

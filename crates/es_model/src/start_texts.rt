@@ -49,6 +49,18 @@ pub enum StartText {
     /// The name of a class.
     Class(Class),
     Print,
+    Call,
+    Apply,
+    ToString,
+    ValueOf,
+    /// The key of a Symbol's description.
+    SymbolDescription,
+    /// The name of the getter there.
+    GetDescription,
+    /// The name of the method under @@hasInstance.
+    HasInstanceMethod,
+    /// The name of the method under @@toPrimitive.
+    ToPrimitiveMethod,
 }
 
 impl StartText {
@@ -71,6 +83,14 @@ impl StartText {
             StartText::Description(symbol) => TextId(13 + symbol.symbol().0),
             StartText::Class(class) => TextId(16 + class.place()),
             StartText::Print => TextId(28),
+            StartText::Call => TextId(29),
+            StartText::Apply => TextId(30),
+            StartText::ToString => TextId(31),
+            StartText::ValueOf => TextId(32),
+            StartText::SymbolDescription => TextId(33),
+            StartText::GetDescription => TextId(34),
+            StartText::HasInstanceMethod => TextId(35),
+            StartText::ToPrimitiveMethod => TextId(36),
         }
     }
 
@@ -97,6 +117,14 @@ impl StartText {
             StartText::Description(WellKnown::ToStringTag) => "Symbol.toStringTag",
             StartText::Class(class) => text_of_class(class),
             StartText::Print => "print",
+            StartText::Call => "call",
+            StartText::Apply => "apply",
+            StartText::ToString => "toString",
+            StartText::ValueOf => "valueOf",
+            StartText::SymbolDescription => "description",
+            StartText::GetDescription => "get description",
+            StartText::HasInstanceMethod => "[Symbol.hasInstance]",
+            StartText::ToPrimitiveMethod => "[Symbol.toPrimitive]",
         }
     }
 }
@@ -154,6 +182,14 @@ pub fn start_text(n: usize) -> Option<StartText>
         StartText::Class(Class::Error(ErrorKind::ReferenceError)),
         StartText::Class(Class::Error(ErrorKind::SyntaxError)),
         StartText::Print,
+        StartText::Call,
+        StartText::Apply,
+        StartText::ToString,
+        StartText::ValueOf,
+        StartText::SymbolDescription,
+        StartText::GetDescription,
+        StartText::HasInstanceMethod,
+        StartText::ToPrimitiveMethod,
     ];
     nth(&all, n)
 }

@@ -34,8 +34,8 @@ pub data Seen : Type 0 where
 
 pub data SeenProperty : Type 0 where
   Has : (key held : Seen) → Attributes → SeenProperty
-  -- no start object has an accessor yet
-  HasFunctions : Seen → SeenProperty
+  -- an accessor with its getter and setter, enumerable, configurable
+  HasFunctions : Seen → (get set : Option (List ℕ)) → (enumerable configurable : Bool) → SeenProperty
 
 pub data SeenKind : Type 0 where
   IsPlain : SeenKind
@@ -61,7 +61,12 @@ names =
     ∷ codes "Boolean" ∷ codes "Boolean.prototype" ∷ codes "Symbol" ∷ codes "Symbol.prototype" ∷ codes "Error" ∷ codes "Error.prototype"
     ∷ codes "TypeError" ∷ codes "TypeError.prototype" ∷ codes "RangeError" ∷ codes "RangeError.prototype"
     ∷ codes "ReferenceError" ∷ codes "ReferenceError.prototype" ∷ codes "SyntaxError" ∷ codes "SyntaxError.prototype"
-    ∷ codes "Proxy" ∷ codes "ThrowTypeError" ∷ codes "Reflect" ∷ codes "print" ∷ []
+    ∷ codes "Proxy" ∷ codes "ThrowTypeError" ∷ codes "Reflect" ∷ codes "print"
+    ∷ codes "Function.prototype.call" ∷ codes "Function.prototype.apply" ∷ codes "Function.prototype[hasInstance]"
+    ∷ codes "Number.prototype.toString" ∷ codes "Number.prototype.valueOf"
+    ∷ codes "Boolean.prototype.toString" ∷ codes "Boolean.prototype.valueOf"
+    ∷ codes "Symbol.prototype.toString" ∷ codes "Symbol.prototype.valueOf" ∷ codes "get Symbol.prototype.description"
+    ∷ codes "Symbol.prototype[toPrimitive]" ∷ codes "Error.prototype.toString" ∷ []
 
 abbrev pub name_of : ObjectId → List ℕ
 name_of o = slice_index_or names o.0 (codes "none")
@@ -86,7 +91,7 @@ seen_key l (Sym s) = SeenSymbol (words_of l (description l s))
 
 abbrev pub seen_property : Lists → Seen → Complete → SeenProperty
 seen_property l key (complete.Stored v flags) = Has key (seen_value l v) flags
-seen_property l key (complete.Accessor get set e c) = HasFunctions key
+seen_property l key (complete.Accessor get set e c) = HasFunctions key (option_map name_of get) (option_map name_of set) e c
 
 abbrev pub seen_kind : Lists → ObjectKind → SeenKind
 seen_kind l kind_of.Ordinary = IsPlain
@@ -154,6 +159,15 @@ GlobalObject = seen (0 ∷ []) ≡
     hidden (codes "globalThis") (thing (codes "global"))
     ∷ fixed (codes "undefined") SeenUndefined
     ∷ hidden (codes "print") (thing (codes "print"))
+    ∷ hidden (codes "Function") (thing (codes "Function"))
+    ∷ hidden (codes "Number") (thing (codes "Number"))
+    ∷ hidden (codes "Boolean") (thing (codes "Boolean"))
+    ∷ hidden (codes "Symbol") (thing (codes "Symbol"))
+    ∷ hidden (codes "Error") (thing (codes "Error"))
+    ∷ hidden (codes "TypeError") (thing (codes "TypeError"))
+    ∷ hidden (codes "RangeError") (thing (codes "RangeError"))
+    ∷ hidden (codes "ReferenceError") (thing (codes "ReferenceError"))
+    ∷ hidden (codes "SyntaxError") (thing (codes "SyntaxError"))
     ∷ hidden (codes "Reflect") (thing (codes "Reflect"))
     ∷ []) ∷ []
 
@@ -170,7 +184,12 @@ ObjectObjects = seen (1 ∷ 2 ∷ []) ≡
 abbrev pub FunctionObjects : Type 0
 FunctionObjects = seen (3 ∷ 4 ∷ []) ≡
     constructor_row 3 (codes "Function.prototype") 1 (codes "Function") (codes "Function.prototype") []
-    ∷ function_row 4 false (codes "Object.prototype") 0 [] []
+    ∷ function_row 4 false (codes "Object.prototype") 0 [] (
+    hidden (codes "constructor") (thing (codes "Function"))
+    ∷ hidden (codes "call") (thing (codes "Function.prototype.call"))
+    ∷ hidden (codes "apply") (thing (codes "Function.prototype.apply"))
+    ∷ Has (SeenSymbol (codes "Symbol.hasInstance")) (thing (codes "Function.prototype[hasInstance]")) (with_flags false false false)
+    ∷ [])
     ∷ []
 
 -- 23.1: %Array.prototype% is an Array, whose length is writable only
@@ -192,14 +211,22 @@ StringObjects = seen (7 ∷ 8 ∷ []) ≡
 abbrev pub NumberObjects : Type 0
 NumberObjects = seen (9 ∷ 10 ∷ []) ≡
     constructor_row 9 (codes "Function.prototype") 1 (codes "Number") (codes "Number.prototype") []
-    ∷ a_row (HasDatum (count_of 0)) (codes "Object.prototype") []
+    ∷ a_row (HasDatum (count_of 0)) (codes "Object.prototype") (
+    hidden (codes "constructor") (thing (codes "Number"))
+    ∷ hidden (codes "toString") (thing (codes "Number.prototype.toString"))
+    ∷ hidden (codes "valueOf") (thing (codes "Number.prototype.valueOf"))
+    ∷ [])
     ∷ []
 
 -- 20.3: Boolean's prototype is a Boolean object of false
 abbrev pub BooleanObjects : Type 0
 BooleanObjects = seen (11 ∷ 12 ∷ []) ≡
     constructor_row 11 (codes "Function.prototype") 1 (codes "Boolean") (codes "Boolean.prototype") []
-    ∷ a_row (HasDatum (SeenTruth false)) (codes "Object.prototype") []
+    ∷ a_row (HasDatum (SeenTruth false)) (codes "Object.prototype") (
+    hidden (codes "constructor") (thing (codes "Boolean"))
+    ∷ hidden (codes "toString") (thing (codes "Boolean.prototype.toString"))
+    ∷ hidden (codes "valueOf") (thing (codes "Boolean.prototype.valueOf"))
+    ∷ [])
     ∷ []
 
 -- 20.4: the constructor of Symbols takes none, and has the well-known ones; Symbol's prototype is no Symbol object
@@ -209,44 +236,52 @@ SymbolObjects = seen (13 ∷ 14 ∷ []) ≡
     fixed (codes "hasInstance") (SeenSymbol (codes "Symbol.hasInstance"))
     ∷ fixed (codes "toPrimitive") (SeenSymbol (codes "Symbol.toPrimitive"))
     ∷ fixed (codes "toStringTag") (SeenSymbol (codes "Symbol.toStringTag")) ∷ [])
-    ∷ a_row IsPlain (codes "Object.prototype") (tagged (codes "Symbol") ∷ [])
+    ∷ a_row IsPlain (codes "Object.prototype") (
+    hidden (codes "constructor") (thing (codes "Symbol"))
+    ∷ hidden (codes "toString") (thing (codes "Symbol.prototype.toString"))
+    ∷ hidden (codes "valueOf") (thing (codes "Symbol.prototype.valueOf"))
+    ∷ HasFunctions (word (codes "description")) (Some (codes "get Symbol.prototype.description")) None false true
+    ∷ Has (SeenSymbol (codes "Symbol.toPrimitive")) (thing (codes "Symbol.prototype[toPrimitive]")) (with_flags false false true)
+    ∷ tagged (codes "Symbol")
+    ∷ [])
     ∷ []
 
 -- ---- errors (20.5): an error's prototype is no error object, and has a name and an empty message
 
-abbrev pub error_prototype : List ℕ → List ℕ → Row
-error_prototype up name =
-    a_row IsPlain up (hidden (codes "name") (word name) ∷ hidden (codes "message") (word []) ∷ [])
+abbrev pub error_prototype : List ℕ → List ℕ → List SeenProperty → Row
+error_prototype up name rest =
+    a_row IsPlain up (
+    hidden (codes "constructor") (thing name) ∷ hidden (codes "name") (word name) ∷ hidden (codes "message") (word []) ∷ rest)
 
 abbrev pub ErrorObjects : Type 0
 ErrorObjects = seen (15 ∷ 16 ∷ []) ≡
     constructor_row 15 (codes "Function.prototype") 1 (codes "Error") (codes "Error.prototype") []
-    ∷ error_prototype (codes "Object.prototype") (codes "Error")
+    ∷ error_prototype (codes "Object.prototype") (codes "Error") (hidden (codes "toString") (thing (codes "Error.prototype.toString")) ∷ [])
     ∷ []
 
 -- the four kinds stand on %Error% and %Error.prototype%
 abbrev pub TypeErrorObjects : Type 0
 TypeErrorObjects = seen (17 ∷ 18 ∷ []) ≡
     constructor_row 17 (codes "Error") 1 (codes "TypeError") (codes "TypeError.prototype") []
-    ∷ error_prototype (codes "Error.prototype") (codes "TypeError")
+    ∷ error_prototype (codes "Error.prototype") (codes "TypeError") []
     ∷ []
 
 abbrev pub RangeErrorObjects : Type 0
 RangeErrorObjects = seen (19 ∷ 20 ∷ []) ≡
     constructor_row 19 (codes "Error") 1 (codes "RangeError") (codes "RangeError.prototype") []
-    ∷ error_prototype (codes "Error.prototype") (codes "RangeError")
+    ∷ error_prototype (codes "Error.prototype") (codes "RangeError") []
     ∷ []
 
 abbrev pub ReferenceErrorObjects : Type 0
 ReferenceErrorObjects = seen (21 ∷ 22 ∷ []) ≡
     constructor_row 21 (codes "Error") 1 (codes "ReferenceError") (codes "ReferenceError.prototype") []
-    ∷ error_prototype (codes "Error.prototype") (codes "ReferenceError")
+    ∷ error_prototype (codes "Error.prototype") (codes "ReferenceError") []
     ∷ []
 
 abbrev pub SyntaxErrorObjects : Type 0
 SyntaxErrorObjects = seen (23 ∷ 24 ∷ []) ≡
     constructor_row 23 (codes "Error") 1 (codes "SyntaxError") (codes "SyntaxError.prototype") []
-    ∷ error_prototype (codes "Error.prototype") (codes "SyntaxError")
+    ∷ error_prototype (codes "Error.prototype") (codes "SyntaxError") []
     ∷ []
 
 -- ---- the others
@@ -272,10 +307,36 @@ ReflectObject = seen (27 ∷ []) ≡ a_row IsPlain (codes "Object.prototype") (t
 abbrev pub PrintFunction : Type 0
 PrintFunction = seen (28 ∷ []) ≡ function_row 28 false (codes "Function.prototype") 0 (codes "print") [] ∷ []
 
+-- ---- methods of prototype objects
+
+-- a method: its number, how many parameters it takes, and its name
+abbrev pub method_row : ℕ → ℕ → List ℕ → Row
+method_row number parameters name = function_row number false (codes "Function.prototype") parameters name []
+
+-- 20.2.3
+abbrev pub MethodsOfFunctions : Type 0
+MethodsOfFunctions = seen (29 ∷ 30 ∷ 31 ∷ []) ≡
+    method_row 29 1 (codes "call") ∷ method_row 30 2 (codes "apply") ∷ method_row 31 1 (codes "[Symbol.hasInstance]") ∷ []
+
+-- 21.1.3, 20.3.3
+abbrev pub MethodsOfNumbersAndBooleans : Type 0
+MethodsOfNumbersAndBooleans = seen (32 ∷ 33 ∷ 34 ∷ 35 ∷ []) ≡
+    method_row 32 1 (codes "toString") ∷ method_row 33 0 (codes "valueOf") ∷ method_row 34 0 (codes "toString") ∷ method_row 35 0 (codes "valueOf") ∷ []
+
+-- 20.4.3
+abbrev pub MethodsOfSymbols : Type 0
+MethodsOfSymbols = seen (36 ∷ 37 ∷ 38 ∷ 39 ∷ []) ≡
+    method_row 36 0 (codes "toString") ∷ method_row 37 0 (codes "valueOf")
+    ∷ method_row 38 0 (codes "get description") ∷ method_row 39 1 (codes "[Symbol.toPrimitive]") ∷ []
+
+-- 20.5.3.4
+abbrev pub MethodOfErrors : Type 0
+MethodOfErrors = seen (40 ∷ []) ≡ method_row 40 0 (codes "toString") ∷ []
+
 -- ---- what is there besides
 
 abbrev pub NoMoreObjects : Type 0
-NoMoreObjects = length start_lists.objects ≡ 29
+NoMoreObjects = length start_lists.objects ≡ 41
 
 -- each text, in the order of the numbers
 abbrev pub AllTexts : Type 0
@@ -284,7 +345,9 @@ AllTexts = start_lists.texts ≡
     ∷ codes "Proxy" ∷ codes "Reflect" ∷ codes "hasInstance" ∷ codes "toPrimitive" ∷ codes "toStringTag"
     ∷ codes "Symbol.hasInstance" ∷ codes "Symbol.toPrimitive" ∷ codes "Symbol.toStringTag"
     ∷ codes "Object" ∷ codes "Function" ∷ codes "Array" ∷ codes "String" ∷ codes "Number" ∷ codes "Boolean" ∷ codes "Symbol"
-    ∷ codes "Error" ∷ codes "TypeError" ∷ codes "RangeError" ∷ codes "ReferenceError" ∷ codes "SyntaxError" ∷ codes "print" ∷ []
+    ∷ codes "Error" ∷ codes "TypeError" ∷ codes "RangeError" ∷ codes "ReferenceError" ∷ codes "SyntaxError" ∷ codes "print"
+    ∷ codes "call" ∷ codes "apply" ∷ codes "toString" ∷ codes "valueOf" ∷ codes "description" ∷ codes "get description"
+    ∷ codes "[Symbol.hasInstance]" ∷ codes "[Symbol.toPrimitive]" ∷ []
 
 -- each well-known Symbol with its description (6.1.5.1)
 abbrev pub AllSymbols : Type 0
@@ -310,7 +373,9 @@ AllRows = builtin_rows ≡
     None
     ∷ facts true ∷ None ∷ facts true ∷ facts false ∷ facts true ∷ None ∷ facts true ∷ None ∷ facts true ∷ None ∷ facts true ∷ None
     ∷ facts true ∷ None ∷ facts true ∷ None ∷ facts true ∷ None ∷ facts true ∷ None ∷ facts true ∷ None ∷ facts true ∷ None
-    ∷ facts true ∷ facts false ∷ None ∷ facts false ∷ []
+    ∷ facts true ∷ facts false ∷ None ∷ facts false
+    ∷ facts false ∷ facts false ∷ facts false ∷ facts false ∷ facts false ∷ facts false
+    ∷ facts false ∷ facts false ∷ facts false ∷ facts false ∷ facts false ∷ facts false ∷ []
 
 abbrev pub NoMoreRows : Type 0
-NoMoreRows = builtin_facts 29 ≡ None
+NoMoreRows = builtin_facts 41 ≡ None

@@ -1,6 +1,6 @@
 //! Worked examples of the world in which a run begins: each object, text and Symbol.
 
-ghost use Rattle.small_changes.specs.Start.{AllRows, AllSymbols, AllTexts, ArrayObjects, BooleanObjects, ErrorObjects, FunctionObjects, GlobalObject, NoMoreObjects, NoMoreRows, NothingHasRun, NumberObjects, ObjectObjects, PrintFunction, ProxyObject, RangeErrorObjects, ReferenceErrorObjects, ReflectObject, StringObjects, SymbolObjects, SyntaxErrorObjects, ThrowTypeErrorObject, TypeErrorObjects};
+ghost use Rattle.small_changes.specs.Start.{AllRows, AllSymbols, AllTexts, ArrayObjects, BooleanObjects, ErrorObjects, FunctionObjects, GlobalObject, NoMoreObjects, NoMoreRows, NothingHasRun, MethodOfErrors, MethodsOfFunctions, MethodsOfNumbersAndBooleans, MethodsOfSymbols, NumberObjects, ObjectObjects, PrintFunction, ProxyObject, RangeErrorObjects, ReferenceErrorObjects, ReflectObject, StringObjects, SymbolObjects, SyntaxErrorObjects, ThrowTypeErrorObject, TypeErrorObjects};
 
 /// The global object.
 pub fn the_global_object_is_so()
@@ -34,6 +34,14 @@ pub fn other_objects_are_so()
     ensures reflect_object { ReflectObject }
     ensures print_function { PrintFunction }
     ensures no_more_objects { NoMoreObjects }
+{}
+
+/// The methods of prototype objects.
+pub fn methods_are_so()
+    ensures methods_of_functions { MethodsOfFunctions }
+    ensures methods_of_numbers_and_booleans { MethodsOfNumbersAndBooleans }
+    ensures methods_of_symbols { MethodsOfSymbols }
+    ensures method_of_errors { MethodOfErrors }
 {}
 
 /// Texts and Symbols.

@@ -2,7 +2,8 @@
 
 use descriptors::Complete;
 use es_model::{
-    Class, ErrorKind, Intrinsic, OwnProperty, StartText, WellKnown, start_intrinsic, start_text,
+    BuiltinFunction, Class, ErrorKind, Intrinsic, OwnProperty, StartText, WellKnown,
+    start_intrinsic, start_text,
 };
 use property_keys::{Attributes, ObjectId, PropKey, SymbolId, TextId, Value};
 use std::test::Fail;
@@ -10,7 +11,7 @@ use std::test::Fail;
 /// An own property at the start: of which object, the place among its own, the key, writable, configurable, and the value.
 struct Row(Intrinsic, usize, PropKey, bool, bool, Value);
 
-static ROWS: [Row; 16] = [
+static ROWS: [Row; 19] = [
     // globalThis is the first text past the six common ones, and `undefined` has three false flags
     Row(
         Intrinsic::Global,
@@ -28,7 +29,7 @@ static ROWS: [Row; 16] = [
         false,
         Value::Undefined,
     ),
-    // print is the last text and the last object
+    // print is the last of the objects that are no method
     Row(
         Intrinsic::Global,
         2,
@@ -45,14 +46,40 @@ static ROWS: [Row; 16] = [
         true,
         Value::Text(TextId(28)),
     ),
-    // Reflect comes last on the global object
+    // Reflect comes last on the global object, after nine constructors
     Row(
         Intrinsic::Global,
-        3,
+        12,
         PropKey::Name(TextId(9)),
         true,
         true,
         Value::Object(ObjectId(27)),
+    ),
+    // the first of the constructors there is that of functions
+    Row(
+        Intrinsic::Global,
+        3,
+        PropKey::Name(TextId(17)),
+        true,
+        true,
+        Value::Object(ObjectId(3)),
+    ),
+    // the method under @@toPrimitive of Symbols is configurable only, and takes the hint
+    Row(
+        Intrinsic::Prototype(Class::Symbol),
+        4,
+        PropKey::Sym(SymbolId(1)),
+        false,
+        true,
+        Value::Object(ObjectId(39)),
+    ),
+    Row(
+        Intrinsic::Function(BuiltinFunction::SymbolToPrimitive),
+        0,
+        PropKey::Name(TextId(0)),
+        false,
+        true,
+        Value::Whole(1),
     ),
     // Function.length is 1, and Symbol.length is 0
     Row(
@@ -106,7 +133,7 @@ static ROWS: [Row; 16] = [
     ),
     Row(
         Intrinsic::Prototype(Class::Symbol),
-        0,
+        5,
         PropKey::Sym(SymbolId(2)),
         false,
         true,
@@ -115,7 +142,7 @@ static ROWS: [Row; 16] = [
     // RangeError is the third of the errors, which come after the seven other classes
     Row(
         Intrinsic::Prototype(Class::Error(ErrorKind::RangeError)),
-        0,
+        1,
         PropKey::Name(TextId(1)),
         true,
         true,
@@ -172,11 +199,11 @@ fn properties_at_the_start(rt: HostRuntime) -> Result<(), Fail> {
 struct Count(Intrinsic, usize);
 
 static COUNTS: [Count; 8] = [
-    Count(Intrinsic::Global, 4),
+    Count(Intrinsic::Global, 13),
     Count(Intrinsic::Print, 2),
     Count(Intrinsic::Constructor(Class::Object), 3),
     Count(Intrinsic::Constructor(Class::Symbol), 6),
-    Count(Intrinsic::Prototype(Class::Function), 2),
+    Count(Intrinsic::Prototype(Class::Function), 6),
     Count(Intrinsic::Prototype(Class::String), 1),
     Count(Intrinsic::Proxy, 2),
     Count(Intrinsic::Reflect, 1),
@@ -188,7 +215,7 @@ fn no_more_properties(rt: HostRuntime) -> Result<(), Fail> {
         assert!(rt; count.0.property(count.1 - 1).is_some());
         assert_eq!(rt; count.0.property(count.1), None);
     }
-    // no constructor is built, so %Object.prototype% has nothing
+    // Object is not built, so %Object.prototype% has nothing
     assert_eq!(rt; Intrinsic::Prototype(Class::Object).property(0), None);
     Ok(())
 }
@@ -237,18 +264,26 @@ fn objects_at_the_start(rt: HostRuntime) -> Result<(), Fail> {
     );
     assert_eq!(rt; start_intrinsic(27), Some(Intrinsic::Reflect));
     assert_eq!(rt; start_intrinsic(28), Some(Intrinsic::Print));
-    assert_eq!(rt; start_intrinsic(29), None);
+    assert_eq!(rt;
+        start_intrinsic(29),
+        Some(Intrinsic::Function(BuiltinFunction::FunctionCall))
+    );
+    assert_eq!(rt;
+        start_intrinsic(40),
+        Some(Intrinsic::Function(BuiltinFunction::ErrorToString))
+    );
+    assert_eq!(rt; start_intrinsic(41), None);
     Ok(())
 }
 
 #[test]
 fn texts_at_the_start(rt: HostRuntime) -> Result<(), Fail> {
-    for n in 0..29 {
+    for n in 0..37 {
         let text = start_text(n).map_or("", |text| text.text());
         assert!(rt; text != "Infinity" && text != "NaN" && text != "parseInt");
     }
-    assert!(rt; start_text(28).is_some());
-    assert_eq!(rt; start_text(29), None);
+    assert!(rt; start_text(36).is_some());
+    assert_eq!(rt; start_text(37), None);
     assert_eq!(rt;
         StartText::Description(WellKnown::ToPrimitive).text(),
         "Symbol.toPrimitive"

@@ -4,7 +4,7 @@ use Rattle.object_heap.proofs.StartLists.{interned_all}
 use Rattle.object_heap.proofs.starting.start_texts.Given as goal
 
 abbrev pub invariant-loop-text : goal.invariant-loop-text
-invariant-loop-text l = (l.n ≤ 29) × (interned_all l.texts (drop l.n start_texts) ≡ start_texts)
+invariant-loop-text l = (l.n ≤ 37) × (interned_all l.texts (drop l.n start_texts) ≡ start_texts)
 
 abbrev pub decreases-loop-text : goal.decreases-loop-text
-decreases-loop-text l = 29 - l.n
+decreases-loop-text l = 37 - l.n
