@@ -46,7 +46,7 @@ const PRINT_FUNCTION: ObjectId = ObjectId(28);
 const PRINT: Value = Value::Object(PRINT_FUNCTION);
 
 /// What a request makes first: there are so many start objects.
-const FIRST_OBJECT: Value = Value::Object(ObjectId(29));
+const FIRST_OBJECT: Value = Value::Object(ObjectId(41));
 
 const UNDEFINED: End = End::Value(Value::Undefined);
 
@@ -59,7 +59,7 @@ const A_KEY: PropKey = PropKey::Name(TextId(7));
 
 const TO_PRIMITIVE: PropKey = PropKey::Sym(SymbolId(1));
 /// The first new text, after the start texts: the hint `string`.
-const HINT: Value = Value::Text(TextId(29));
+const HINT: Value = Value::Text(TextId(37));
 
 /// print is the global object's method under @@toPrimitive: to convert it prints the hint, and gives undefined.
 const PRINTS_HINT: Ask = Ask::Store(TO_PRIMITIVE, PRINT);

@@ -8,7 +8,7 @@ use property_keys::{Attributes, Counting, ObjectId, PropKey, Steps, Value};
 use std::test::Fail;
 
 /// What is made first: there are so many start objects.
-const FIRST_OBJECT: ObjectId = ObjectId(29);
+const FIRST_OBJECT: ObjectId = ObjectId(41);
 
 #[test]
 fn four_calls(rt: HostRuntime) -> Result<(), Fail> {

@@ -19,10 +19,10 @@ enum Many {
 /// One more than sixteen bits have numbers.
 const COUNT: u32 = 65_537;
 
-/// What is made, and the number of the first one: behind 29 objects, 29 texts and 3 Symbols at the start.
+/// What is made, and the number of the first one: behind 41 objects, 37 texts and 3 Symbols at the start.
 static ROWS: [(Many, u32); 4] = [
-    (Many::Objects, 29),
-    (Many::Texts, 29),
+    (Many::Objects, 41),
+    (Many::Texts, 37),
     (Many::Symbols, 3),
     (Many::Cells, 0),
 ];

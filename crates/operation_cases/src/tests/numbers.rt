@@ -17,7 +17,7 @@ pub(crate) const ARRAY_PROTOTYPE: ObjectId = ObjectId(6);
 pub(crate) const PRINT_FUNCTION: ObjectId = ObjectId(28);
 
 /// How many start objects there are: what a test makes first has this number.
-const START_OBJECTS: u32 = 29;
+const START_OBJECTS: u32 = 41;
 
 pub(crate) const FIRST_OBJECT: ObjectId = ObjectId(START_OBJECTS);
 
@@ -48,8 +48,13 @@ pub(crate) const UNDEFINED: TextId = TextId(7);
 /// `Symbol.hasInstance`, the description of that Symbol.
 pub(crate) const HAS_INSTANCE_DESCRIPTION: TextId = TextId(13);
 
+/// `toString`
+pub(crate) const TO_STRING: TextId = TextId(31);
+/// `valueOf`
+pub(crate) const VALUE_OF: TextId = TextId(32);
+
 /// How many start texts there are: what is new first in a test has this number.
-const START_TEXTS: u32 = 29;
+const START_TEXTS: u32 = 37;
 
 pub(crate) const FIRST_TEXT: TextId = TextId(START_TEXTS);
 

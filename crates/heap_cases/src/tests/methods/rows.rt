@@ -8,7 +8,7 @@ use property_keys::{Attributes, ObjectId, Value};
 pub(crate) struct Row(pub(crate) Step, pub(crate) Seen);
 
 /// How many start objects there are.
-const START: u32 = 29;
+const START: u32 = 41;
 
 /// The objects that are made, in turn.
 const A: ObjectId = ObjectId(START);

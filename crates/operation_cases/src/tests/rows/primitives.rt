@@ -1,9 +1,9 @@
 //! ToPrimitive and OrdinaryToPrimitive (ECMA-262, 7.1.1, 7.1.1.1).
 
-use super::{FIFTH_MESSAGE, FIVE, Row, THIRD_MESSAGE};
+use super::{FIFTH_MESSAGE, FIRST_MESSAGE, FIVE, Row, THIRD_MESSAGE};
 use crate::tests::numbers::{
     FIFTH_TEXT, FIRST_OBJECT, FIRST_TEXT, FOURTH_TEXT, FUNCTION, OBJECT, OBJECT_PROTOTYPE,
-    SECOND_OBJECT, SECOND_TEXT, THIRD_TEXT, TO_PRIMITIVE,
+    SECOND_OBJECT, SECOND_TEXT, THIRD_TEXT, TO_PRIMITIVE, TO_STRING, VALUE_OF,
 };
 use crate::tests::seen::{Few, Seen};
 use crate::tests::steps::{Given, Question, Step};
@@ -21,9 +21,9 @@ pub(crate) static NUMBER_FIRST: [Row; 11] = [
     ),
     Row(
         Step::Answer(Given::Value(Value::Undefined)),
-        Seen::AsksRead(OBJECT_PROTOTYPE, PropKey::Name(FIRST_TEXT)),
+        Seen::AsksRead(OBJECT_PROTOTYPE, PropKey::Name(VALUE_OF)),
     ),
-    Row(Step::Text("valueOf"), Seen::Value(Value::Text(FIRST_TEXT))),
+    Row(Step::Text("valueOf"), Seen::Value(Value::Text(VALUE_OF))),
     Row(Step::Left, Seen::Turns(9)),
     Row(
         Step::Answer(Given::Value(Value::Object(OBJECT))),
@@ -35,12 +35,9 @@ pub(crate) static NUMBER_FIRST: [Row; 11] = [
     ),
     Row(
         Step::Answer(Given::Value(Value::Object(FUNCTION))),
-        Seen::AsksRead(OBJECT_PROTOTYPE, PropKey::Name(SECOND_TEXT)),
+        Seen::AsksRead(OBJECT_PROTOTYPE, PropKey::Name(TO_STRING)),
     ),
-    Row(
-        Step::Text("toString"),
-        Seen::Value(Value::Text(SECOND_TEXT)),
-    ),
+    Row(Step::Text("toString"), Seen::Value(Value::Text(TO_STRING))),
     Row(Step::Left, Seen::Turns(8)),
     Row(
         Step::Answer(Given::Value(Value::Object(OBJECT))),
@@ -65,14 +62,14 @@ pub(crate) static TEXT_FIRST: [Row; 10] = [
     ),
     Row(
         Step::Answer(Given::Value(Value::Null)),
-        Seen::AsksRead(OBJECT_PROTOTYPE, PropKey::Name(FIRST_TEXT)),
+        Seen::AsksRead(OBJECT_PROTOTYPE, PropKey::Name(TO_STRING)),
     ),
-    Row(Step::Text("toString"), Seen::Value(Value::Text(FIRST_TEXT))),
+    Row(Step::Text("toString"), Seen::Value(Value::Text(TO_STRING))),
     Row(
         Step::Answer(Given::Value(Value::Whole(1))),
-        Seen::AsksRead(OBJECT_PROTOTYPE, PropKey::Name(SECOND_TEXT)),
+        Seen::AsksRead(OBJECT_PROTOTYPE, PropKey::Name(VALUE_OF)),
     ),
-    Row(Step::Text("valueOf"), Seen::Value(Value::Text(SECOND_TEXT))),
+    Row(Step::Text("valueOf"), Seen::Value(Value::Text(VALUE_OF))),
     Row(
         Step::Answer(Given::Value(Value::Object(OBJECT))),
         Seen::AsksCall(
@@ -87,11 +84,11 @@ pub(crate) static TEXT_FIRST: [Row; 10] = [
     ),
     Row(
         Step::Text("cannot convert"),
-        Seen::Value(Value::Text(THIRD_TEXT)),
+        Seen::Value(Value::Text(FIRST_TEXT)),
     ),
     Row(
         Step::Message(FIRST_OBJECT),
-        Seen::Property(Some(THIRD_MESSAGE)),
+        Seen::Property(Some(FIRST_MESSAGE)),
     ),
     Row(Step::Left, Seen::Turns(8)),
 ];
@@ -213,7 +210,7 @@ pub(crate) static PRIMITIVE_THROWS: [Row; 30] = [
     ),
     Row(
         Step::Answer(Given::Value(Value::Undefined)),
-        Seen::AsksRead(OBJECT_PROTOTYPE, PropKey::Name(FIRST_TEXT)),
+        Seen::AsksRead(OBJECT_PROTOTYPE, PropKey::Name(VALUE_OF)),
     ),
     Row(Step::Answer(Given::Thrown(FIVE)), Seen::Thrown(FIVE)),
     Row(
@@ -225,7 +222,7 @@ pub(crate) static PRIMITIVE_THROWS: [Row; 30] = [
     ),
     Row(
         Step::Answer(Given::Value(Value::Undefined)),
-        Seen::AsksRead(OBJECT_PROTOTYPE, PropKey::Name(FIRST_TEXT)),
+        Seen::AsksRead(OBJECT_PROTOTYPE, PropKey::Name(VALUE_OF)),
     ),
     Row(
         Step::Answer(Given::Value(Value::Object(OBJECT))),
@@ -245,11 +242,11 @@ pub(crate) static PRIMITIVE_THROWS: [Row; 30] = [
     ),
     Row(
         Step::Answer(Given::Value(Value::Undefined)),
-        Seen::AsksRead(OBJECT_PROTOTYPE, PropKey::Name(FIRST_TEXT)),
+        Seen::AsksRead(OBJECT_PROTOTYPE, PropKey::Name(VALUE_OF)),
     ),
     Row(
         Step::Answer(Given::Value(Value::Undefined)),
-        Seen::AsksRead(OBJECT_PROTOTYPE, PropKey::Name(SECOND_TEXT)),
+        Seen::AsksRead(OBJECT_PROTOTYPE, PropKey::Name(TO_STRING)),
     ),
     Row(Step::Answer(Given::Thrown(FIVE)), Seen::Thrown(FIVE)),
     Row(
@@ -261,11 +258,11 @@ pub(crate) static PRIMITIVE_THROWS: [Row; 30] = [
     ),
     Row(
         Step::Answer(Given::Value(Value::Undefined)),
-        Seen::AsksRead(OBJECT_PROTOTYPE, PropKey::Name(FIRST_TEXT)),
+        Seen::AsksRead(OBJECT_PROTOTYPE, PropKey::Name(VALUE_OF)),
     ),
     Row(
         Step::Answer(Given::Value(Value::Undefined)),
-        Seen::AsksRead(OBJECT_PROTOTYPE, PropKey::Name(SECOND_TEXT)),
+        Seen::AsksRead(OBJECT_PROTOTYPE, PropKey::Name(TO_STRING)),
     ),
     Row(
         Step::Answer(Given::Value(Value::Object(OBJECT))),
@@ -286,11 +283,11 @@ pub(crate) static PRIMITIVE_THROWS: [Row; 30] = [
     ),
     Row(
         Step::Answer(Given::Value(Value::Undefined)),
-        Seen::AsksRead(OBJECT_PROTOTYPE, PropKey::Name(FIRST_TEXT)),
+        Seen::AsksRead(OBJECT_PROTOTYPE, PropKey::Name(VALUE_OF)),
     ),
     Row(
         Step::Answer(Given::Value(Value::Undefined)),
-        Seen::AsksRead(OBJECT_PROTOTYPE, PropKey::Name(SECOND_TEXT)),
+        Seen::AsksRead(OBJECT_PROTOTYPE, PropKey::Name(TO_STRING)),
     ),
     Row(
         Step::Answer(Given::Value(Value::Undefined)),
@@ -306,11 +303,11 @@ pub(crate) static PRIMITIVE_THROWS: [Row; 30] = [
     ),
     Row(
         Step::Answer(Given::Value(Value::Undefined)),
-        Seen::AsksRead(OBJECT_PROTOTYPE, PropKey::Name(FIRST_TEXT)),
+        Seen::AsksRead(OBJECT_PROTOTYPE, PropKey::Name(VALUE_OF)),
     ),
     Row(
         Step::Answer(Given::Value(Value::Undefined)),
-        Seen::AsksRead(OBJECT_PROTOTYPE, PropKey::Name(SECOND_TEXT)),
+        Seen::AsksRead(OBJECT_PROTOTYPE, PropKey::Name(TO_STRING)),
     ),
     Row(Step::Left, Seen::Turns(0)),
     Row(
