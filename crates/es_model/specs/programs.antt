@@ -4,3 +4,4 @@ pub mod Converting
 pub mod Errors
 pub mod Methods
 pub mod Testing
+pub mod Texts

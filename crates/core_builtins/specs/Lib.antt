@@ -1,0 +1,13 @@
+pub mod Answers
+pub mod Booleans
+pub mod Constructed
+pub mod Core
+pub mod Errors
+pub mod ErrorTexts
+pub mod Functions
+pub mod Joined
+pub mod Names
+pub mod Numbers
+pub mod Rests
+pub mod Symbols
+pub mod Turns
