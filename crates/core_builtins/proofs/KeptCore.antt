@@ -2,7 +2,7 @@
 use Rattle.std.proofs.Common.{ℕ, ℤ, pos, Bool, true, false, Option, Some, None, List, [], ◌∷◌, slice_get, refl, subst, arith}
 use Rattle.std.proofs.lemmas.Int.{ints}
 use Rattle.std.proofs.lemmas.List.{length-append}
-use Rattle.std.specs.Prelude.{codes}
+use Rattle.std.specs.Prelude.{codes, nat_abs}
 use Rattle.property_keys.specs.declared.identifiers.ObjectId.{ObjectId}
 use Rattle.property_keys.specs.declared.identifiers.SymbolId.{SymbolId}
 use Rattle.property_keys.specs.declared.identifiers.TextId.{TextId}
@@ -17,8 +17,7 @@ use Rattle.es_model.specs.declared.intrinsics.Class.TheVariants as class
 use Rattle.es_model.specs.declared.intrinsics.Intrinsic.{Intrinsic}
 use Rattle.es_model.specs.declared.intrinsics.Intrinsic.TheVariants as intrinsic
 use Rattle.es_model.specs.declared.kinds.ErrorKind.{ErrorKind}
-use Rattle.es_model.specs.declared.kinds.ObjectKind.{ObjectKind}
-use Rattle.es_model.specs.declared.kinds.ObjectKind.TheVariants as kind_of
+use Rattle.es_model.specs.declared.kinds.ErrorKind.TheVariants as error
 use Rattle.es_model.specs.declared.requests.Operation.TheVariants as operation
 use Rattle.es_model.specs.declared.requests.Request.{Request}
 use Rattle.es_model.specs.declared.requests.Request.TheVariants.{GetOwn, Define, Has, Read, Write, Delete, Keys, Proto, SetProto, Extensible, Prevent, Call, Construct, Work, Print}
@@ -31,7 +30,8 @@ use Rattle.es_model.specs.Program.{Of, Program, Task, ask, done, intern}
 use Rattle.es_model.specs.Sound.{IsSound}
 use Rattle.es_model.specs.StartWorld.{all_intrinsics}
 use Rattle.es_model.specs.World.{Lists, World, description, kind, new_symbol, number_of}
-use Rattle.es_model.specs.programs.Errors.{not_a_function, unfit}
+use Rattle.es_model.specs.programs.Converting.{to_number}
+use Rattle.es_model.specs.programs.Errors.{not_a_function, throw_error, unfit}
 use Rattle.es_model.specs.programs.Testing.{as_object, is_callable, is_truth}
 use Rattle.es_model.specs.programs.Abrupt.{list_in}
 use Rattle.es_model.specs.programs.Texts.{to_string}
@@ -39,18 +39,20 @@ use Rattle.es_model.proofs.Abrupt.{answer-kept, list-there}
 use Rattle.es_model.proofs.KnownLater.{known-later, object-later, text-later}
 use Rattle.es_model.proofs.SharedKept.{IsNumberAnswer, flag-kept, get_named-kept, has_named-kept, not_function-kept, not_object-kept, then_whole-kept, to_number-kept, value-kept}
 use Rattle.es_model.proofs.SoundChanges.{sound-symbol}
-use Rattle.es_model.proofs.SoundErrors.{kept-if, throw-fits}
+use Rattle.es_model.proofs.SoundErrors.{error-kept, kept-if, throw-fits}
 use Rattle.object_heap.specs.Turns.{KeepsFor}
 use Rattle.function_objects.proofs.Constructed.{prototype_kept}
-use Rattle.core_builtins.specs.Answers.{first_given, first_of, gives, gives_joined, inner_value, rest_of, second_of, three_joined}
+use Rattle.core_builtins.specs.Answers.{first_given, first_of, gives, gives_text, gives_joined, inner_value, rest_of, second_of, three_joined}
 use Rattle.core_builtins.specs.Booleans.{boolean_text, gives_boolean, with_boolean}
 use Rattle.core_builtins.specs.Constructed.{create_wrapper, wrapper_given, wrapper_made}
-use Rattle.core_builtins.specs.Core.{call_of, call_program, construct_of, constructor_called, constructor_constructed, core_program, function_called, intrinsic_called, intrinsic_constructed, prototype_called, row_of, row_called, row_constructed}
+use Rattle.core_builtins.specs.Core.{call_of, call_program, construct_of, constructor_called, constructor_constructed, core_program, function_called, intrinsic_called, intrinsic_constructed, prototype_called, row_called, row_of, row_constructed}
 use Rattle.core_builtins.specs.Errors.{cause_by, cause_given, cause_had, cause_is_there, cause_put, error_constructed, error_given, error_made, install_cause, message_given, message_put, with_message}
 use Rattle.core_builtins.specs.ErrorTexts.{message_asked, message_got, message_text_given, name_got, name_text_given, shown, shown_by, text_of_error, with_colon, with_message_text, with_name_text}
 use Rattle.core_builtins.specs.Functions.{apply_with, call_with, list_given}
 use Rattle.core_builtins.specs.Numbers.{gives_number, number_called_by, number_constructed_by, number_given, number_to_wrap, with_number, wrap_number}
+use Rattle.core_builtins.specs.Radices.{is_radix, radix_given, radix_text, radix_units, with_radix}
 use Rattle.core_builtins.specs.Symbols.{described, description_given, description_value, descriptive_of, descriptive_string, gives_description, gives_symbol, symbol_made, symbol_of, with_description, with_symbol}
+use Rattle.core_builtins.proofs.RadixDigits.{radix-short}
 use Rattle.core_builtins.proofs.KeptWords.{OnText, TakesObject, TakesValue, description-known, first-known, first_given-known, inner-known, intern-kept, join-kept, make_error-kept, put_named-kept, rest-known, second-known, then_text-kept, to_string-kept, wrapper_made-kept, wrong-kept}
 
 unfit-kept : (t : Task) (w : World) → IsSound w → IsKept (FitsTask t) unfit w
@@ -107,6 +109,25 @@ number_constructed-kept t takes w target None s known there = create_wrapper-kep
 number_constructed-kept t takes w target (Some v) s known there =
     to_number-kept (FitsTask t) w v (number_to_wrap target) s known (λ c u su l fit.
     then_whole-kept t u (wrap_number target) c su fit (λ n whole. create_wrapper-kept t takes u class.Number (value.Whole n) target su whole (object-later w.lists u.lists l.lists target there)))
+
+radix_text-kept : (t : Task) → TakesValue t → (w : World) (x radix : ℤ) → IsSound w → IsKept (FitsTask t) (radix_text x radix) w
+radix_text-kept t takes w x radix s =
+    kept-if (FitsTask t) w (is_radix radix) (gives_text (radix_units (nat_abs radix) x)) (throw_error error.RangeError (codes "invalid radix"))
+    (intern-kept t w (radix_units (nat_abs radix) x) (λ y. gives (value.Text y)) s (radix-short (nat_abs radix) x) (λ y u su l known. (su, takes u.lists (value.Text y) known)))
+    (error-kept t w error.RangeError (codes "invalid radix") s (omega arith))
+
+asked_radix-kept : (t : Task) → TakesValue t → (w : World) (v : Value) (x : ℤ) → IsSound w → IsKnown w.lists v → IsKept (FitsTask t) (to_number v (radix_given x)) w
+asked_radix-kept t takes w v x s known =
+    to_number-kept (FitsTask t) w v (radix_given x) s known (λ c u su l fit. then_whole-kept t u (radix_text x) c su fit (λ n whole. radix_text-kept t takes u x n su))
+
+with_radix-kept : (t : Task) → TakesValue t → (w : World) (v : Value) (x : ℤ) → IsSound w → IsKnown w.lists v → IsKept (FitsTask t) (with_radix v x) w
+with_radix-kept t takes w value.Undefined x s known = radix_text-kept t takes w x (pos 10) s
+with_radix-kept t takes w value.Null x s known = asked_radix-kept t takes w value.Null x s known
+with_radix-kept t takes w (value.Bool b) x s known = asked_radix-kept t takes w (value.Bool b) x s known
+with_radix-kept t takes w (value.Whole n) x s known = asked_radix-kept t takes w (value.Whole n) x s known
+with_radix-kept t takes w (value.Text y) x s known = asked_radix-kept t takes w (value.Text y) x s known
+with_radix-kept t takes w (value.Symbol y) x s known = asked_radix-kept t takes w (value.Symbol y) x s known
+with_radix-kept t takes w (value.Object o) x s known = asked_radix-kept t takes w (value.Object o) x s known
 
 -- ---- Symbol
 
@@ -348,7 +369,9 @@ function_called-kept g this vs function.FunctionApply w s rk known =
     kept-if (FitsTask (Of (Call g this vs))) w (is_callable w.lists this) (apply_with this (first_of vs) (second_of vs)) not_a_function
     (apply_with-kept g this vs w this (first_of vs) (second_of vs) s rk (first-known w.lists vs known) (second-known w.lists vs known)) (not_function-kept (Of (Call g this vs)) w s)
 function_called-kept g this vs function.FunctionHasInstance w s rk known = unfit-kept (Of (Call g this vs)) w s
-function_called-kept g this vs function.NumberToString w s rk known = unfit-kept (Of (Call g this vs)) w s
+function_called-kept g this vs function.NumberToString w s rk known =
+    with_number-kept (Of (Call g this vs)) w (with_radix (first_of vs)) (inner_value w.lists this) s (inner-known w this s rk) (λ n whole.
+    with_radix-kept (Of (Call g this vs)) (takes_value g this vs) w (first_of vs) n s (first-known w.lists vs known))
 function_called-kept g this vs function.NumberValueOf w s rk known =
     with_number-kept (Of (Call g this vs)) w gives_number (inner_value w.lists this) s (inner-known w this s rk) (λ n whole. (s, (tt, whole)))
 function_called-kept g this vs function.BooleanToString w s rk known =

@@ -1,7 +1,9 @@
+pub mod CoreWithin
 pub mod Joining
 pub mod KeptCore
 pub mod KeptWords
 pub mod NamedLater
 pub mod Prototyped
+pub mod RadixDigits
 pub mod RestOf
 pub mod There

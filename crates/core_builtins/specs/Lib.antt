@@ -8,6 +8,7 @@ pub mod Functions
 pub mod Joined
 pub mod Names
 pub mod Numbers
+pub mod Radices
 pub mod Rests
 pub mod Symbols
 pub mod Turns

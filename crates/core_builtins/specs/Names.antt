@@ -19,6 +19,7 @@ names_of_function Called = []
 abbrev pub names_of_wrapper : WrapperFrame → List FrameName
 names_of_wrapper wrapper.NumberGiven = []
 names_of_wrapper (wrapper.NumberToWrap target) = NamesObject target ∷ []
+names_of_wrapper (wrapper.RadixGiven x) = []
 names_of_wrapper (wrapper.PrototypeGiven f) = NamesValue f.value ∷ NamesObject f.target ∷ []
 
 abbrev pub names_of_error : ErrorFrame → List FrameName

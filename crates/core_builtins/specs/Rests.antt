@@ -6,6 +6,7 @@ use Rattle.core_builtins.specs.Errors.{cause_given, cause_had, error_given, mess
 use Rattle.core_builtins.specs.ErrorTexts.{message_got, message_text_given, name_got, name_text_given}
 use Rattle.core_builtins.specs.Functions.{called, list_given}
 use Rattle.core_builtins.specs.Numbers.{number_given, number_to_wrap}
+use Rattle.core_builtins.specs.Radices.{radix_given}
 use Rattle.core_builtins.specs.Symbols.{description_given}
 use Rattle.core_builtins.specs.declared.frame.CoreFrame.{CoreFrame}
 use Rattle.core_builtins.specs.declared.frame.CoreFrame.TheVariants as core
@@ -27,6 +28,7 @@ after_function Called c = called c
 abbrev pub after_wrapper : WrapperFrame → Completion → Program
 after_wrapper wrapper.NumberGiven c = number_given c
 after_wrapper (wrapper.NumberToWrap target) c = number_to_wrap target c
+after_wrapper (wrapper.RadixGiven x) c = radix_given x c
 after_wrapper (wrapper.PrototypeGiven f) c = wrapper_given f.class f.value f.target c
 
 abbrev pub after_symbol : SymbolFrame → Completion → Program

@@ -37,13 +37,15 @@ pub struct Wrapping {
     pub target: ObjectId,
 }
 
-/// Boolean and Number (ECMA-262, 20.3.1.1, 21.1.1.1).
+/// Boolean and Number, and Number.prototype.toString (ECMA-262, 20.3.1.1, 21.1.1.1, 21.1.3.6).
 #[derive(Drop)]
 pub enum WrapperFrame {
     /// the number that a call gives (21.1.1.1, step 1.a)
     NumberGiven,
     /// the number that is wrapped, with the new target (21.1.1.1, step 1.a)
     NumberToWrap(ObjectId),
+    /// the radix in which this number is written (21.1.3.6, step 3)
+    RadixGiven(i64),
     /// the value under "prototype" of the new target (10.1.14, step 2)
     PrototypeGiven(Wrapping),
 }

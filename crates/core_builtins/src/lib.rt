@@ -10,6 +10,7 @@ mod errors;
 mod frame;
 mod functions;
 mod numbers;
+mod radices;
 mod symbols;
 mod texts;
 mod throwing;

@@ -29,6 +29,7 @@ use crate::functions::{function_apply, function_call, list_given};
 use crate::numbers::{
     number_called, number_constructed, number_given, number_to_wrap, number_value_of,
 };
+use crate::radices::{number_to_string, radix_given};
 use crate::symbols::{
     description_given, symbol_called, symbol_description, symbol_to_string, symbol_value_of,
 };
@@ -256,9 +257,8 @@ fn function_called<L: Ledger>(
         }
         BuiltinFunction::SymbolDescription => symbol_description(heap, this, steps),
         BuiltinFunction::ErrorToString => error_to_string(heap, this, steps),
-        BuiltinFunction::FunctionHasInstance | BuiltinFunction::NumberToString => {
-            Ok(Turn::Done(Completion::Throw(Value::Undefined)))
-        }
+        BuiltinFunction::NumberToString => number_to_string(alloc, heap, this, arguments, steps),
+        BuiltinFunction::FunctionHasInstance => Ok(Turn::Done(Completion::Throw(Value::Undefined))),
     }
 }
 
@@ -347,7 +347,7 @@ fn next_turn<L: Ledger>(
 {
     match frame {
         CoreFrame::Function(frame) => after_function(heap, frame, answer),
-        CoreFrame::Wrapper(frame) => after_wrapper(heap, frame, answer, steps),
+        CoreFrame::Wrapper(frame) => after_wrapper(alloc, heap, frame, answer, steps),
         CoreFrame::Symbol(frame) => after_symbol(heap, frame, answer),
         CoreFrame::Error(frame) => after_error(alloc, heap, frame, answer, steps),
         CoreFrame::ErrorText(frame) => after_error_text(alloc, heap, frame, answer, steps),
@@ -370,6 +370,7 @@ fn after_function(
 }
 
 fn after_wrapper<L: Ledger>(
+    alloc: Global,
     heap: &mut Heap,
     frame: WrapperFrame,
     answer: Completion,
@@ -382,6 +383,7 @@ fn after_wrapper<L: Ledger>(
     match frame {
         WrapperFrame::NumberGiven => number_given(heap, answer),
         WrapperFrame::NumberToWrap(target) => number_to_wrap(heap, target, answer),
+        WrapperFrame::RadixGiven(x) => radix_given(alloc, heap, x, answer, steps),
         WrapperFrame::PrototypeGiven(wrapping) => wrapper_given(heap, wrapping, answer, steps),
     }
 }
