@@ -1,5 +1,5 @@
 -- What a frame keeps that was made in the turn is there in the world after the turn, over plain variables.
-use Rattle.std.proofs.Common.{◌≡◌, Result, Ok, Err, List, [], ◌∷◌, sym, subst}
+use Rattle.std.proofs.Common.{Result, Ok, Err, List, [], ◌∷◌, sym, subst}
 use Rattle.es_model.specs.declared.answers.Stop.{Stop}
 use Rattle.es_model.specs.declared.answers.Turn.{Turn}
 use Rattle.es_model.specs.declared.answers.Turn.TheVariants.{Ask, Done}
@@ -13,7 +13,7 @@ use Rattle.es_model.specs.World.{World}
 use Rattle.es_model.proofs.Belonging.{names-stay}
 use Rattle.object_heap.specs.Stands.{HeapView, StandsFor}
 use Rattle.object_heap.specs.Stops.{Stops}
-use Rattle.object_heap.specs.Turns.{IsTurn, KeepsNamed, world_after}
+use Rattle.object_heap.specs.Turns.{KeepsNamed, world_after}
 use Rattle.object_heap.proofs.Turns.{later_stage, named_done, named_stop, turn_of}
 
 -- what is kept of a world is kept of a later one

@@ -1,11 +1,10 @@
 -- Error.prototype.toString (ECMA-262, 20.5.3.4).
-use Rattle.std.specs.Prelude.{ℕ, Bool, true, false, Option, Some, None, List, [], ◌∷◌, codes}
+use Rattle.std.specs.Prelude.{Bool, true, false, Option, Some, None, [], codes}
 use Rattle.property_keys.specs.declared.identifiers.ObjectId.{ObjectId}
 use Rattle.property_keys.specs.declared.identifiers.TextId.{TextId}
 use Rattle.property_keys.specs.declared.values.Value.{Value}
 use Rattle.property_keys.specs.declared.values.Value.TheVariants as value
 use Rattle.es_model.specs.Completions.{Completion}
-use Rattle.es_model.specs.World.{Lists, units_of}
 use Rattle.es_model.specs.Program.{Program, intern, look}
 use Rattle.es_model.specs.programs.Abrupt.{then_value}
 use Rattle.es_model.specs.programs.Converting.{not_an_object}

@@ -17,7 +17,7 @@ pub(crate) struct Row(pub(crate) Step, pub(crate) Seen);
 const FIVE: Value = Value::Whole(5);
 
 /// How many paths there are.
-pub(crate) const PATHS: usize = 14;
+pub(crate) const PATHS: usize = 15;
 
 pub(crate) fn numbered(number: usize) -> &'static [Row] {
     match number {
@@ -34,6 +34,7 @@ pub(crate) fn numbered(number: usize) -> &'static [Row] {
         10 => &errors::PLAIN,
         11 => &errors::CAUSES,
         12 => &errors::THROWS,
+        13 => &numbers::RADICES,
         _ => &error_texts::TEXTS,
     }
 }

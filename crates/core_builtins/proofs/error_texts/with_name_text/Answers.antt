@@ -1,4 +1,4 @@
-use Rattle.std.proofs.Common.{◌≡◌, sym, subst}
+use Rattle.std.proofs.Common.{sym, subst}
 use Rattle.std.specs.Prelude.{codes}
 use Rattle.es_model.specs.Changes.{Interning, changed}
 use Rattle.es_model.specs.Stages.{stage_of}

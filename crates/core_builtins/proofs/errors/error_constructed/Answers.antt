@@ -1,4 +1,4 @@
-use Rattle.std.proofs.Common.{◌≡◌, subst}
+use Rattle.std.proofs.Common.{subst}
 use Rattle.std.specs.Prelude.{codes}
 use Rattle.es_model.specs.Stages.{stage_of}
 use Rattle.es_model.specs.programs.Methods.{get_named}

@@ -1,6 +1,6 @@
 use Rattle.std.proofs.Common.{◌≡◌, ◌++◌, ◌∷◌, ◌-◌, ◌+◌, [], suc, take, ap, ◌∙◌, arith}
 use Rattle.core_builtins.specs.Answers.{rest_of}
-use Rattle.core_builtins.proofs.RestOf.{rest_copied, rest_whole}
+use Rattle.core_builtins.proofs.RestOf.{rest_copied}
 use Rattle.core_builtins.proofs.functions.rest_of.Goals as goal
 
 pub copied-preserved : goal.copied-preserved
