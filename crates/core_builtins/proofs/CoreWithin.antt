@@ -35,7 +35,7 @@ use Rattle.core_builtins.specs.Constructed.{create_wrapper, wrapper_given, wrapp
 use Rattle.core_builtins.specs.Core.{constructor_called, constructor_constructed, function_called, intrinsic_called, intrinsic_constructed, prototype_called, row_called, row_constructed}
 use Rattle.core_builtins.specs.Errors.{cause_by, cause_given, cause_had, cause_is_there, cause_put, error_constructed, error_given, error_made, message_given, message_put, with_message}
 use Rattle.core_builtins.specs.ErrorTexts.{message_asked, message_got, message_text_given, name_got, name_text_given, shown, shown_by, text_of_error, with_message_text, with_name_text}
-use Rattle.core_builtins.specs.Functions.{apply_with, call_with, function_apply, function_call}
+use Rattle.core_builtins.specs.Functions.{gives_flag, apply_with, call_with, function_apply, function_call}
 use Rattle.core_builtins.specs.Numbers.{gives_number, number_called_by, number_constructed_by, number_given, number_to_wrap, with_number, wrap_number}
 use Rattle.core_builtins.specs.Radices.{is_radix, radix_given, radix_text, radix_units, with_radix}
 use Rattle.core_builtins.specs.Symbols.{described, description_given, descriptive_of, descriptive_string, gives_description, gives_symbol, symbol_of, with_description, with_symbol}
@@ -298,7 +298,7 @@ prototype_called-within r (class.Error k) = tt
 function_called-within : (r : ℕ) → 200 ≤ r → (g : BuiltinFunction) (this : Value) (vs : List Value) → IsWithin r r (function_called g this vs)
 function_called-within r enough function.FunctionCall this vs = function_call-within r enough this vs
 function_called-within r enough function.FunctionApply this vs = function_apply-within r enough this vs
-function_called-within r enough function.FunctionHasInstance this vs = tt
+function_called-within r enough function.FunctionHasInstance this vs = (0, omega arith, λ c. go_on-within r 0 gives_flag (taken flag_in c) (λ b. tt))
 function_called-within r enough function.NumberToString this vs = λ l. with_number-within r r (with_radix (first_of vs)) (inner_value l this) (with_radix-within r enough (first_of vs))
 function_called-within r enough function.NumberValueOf this vs = λ l. with_number-within r r gives_number (inner_value l this) (λ n. tt)
 function_called-within r enough function.BooleanToString this vs = λ l. with_boolean-within r r boolean_text (inner_value l this) (λ x m. tt)

@@ -48,7 +48,7 @@ use Rattle.core_builtins.specs.Constructed.{create_wrapper, wrapper_given, wrapp
 use Rattle.core_builtins.specs.Core.{call_of, call_program, construct_of, constructor_called, constructor_constructed, core_program, function_called, intrinsic_called, intrinsic_constructed, prototype_called, row_called, row_of, row_constructed}
 use Rattle.core_builtins.specs.Errors.{cause_by, cause_given, cause_had, cause_is_there, cause_put, error_constructed, error_given, error_made, install_cause, message_given, message_put, with_message}
 use Rattle.core_builtins.specs.ErrorTexts.{message_asked, message_got, message_text_given, name_got, name_text_given, shown, shown_by, text_of_error, with_colon, with_message_text, with_name_text}
-use Rattle.core_builtins.specs.Functions.{apply_with, call_with, list_given}
+use Rattle.core_builtins.specs.Functions.{gives_flag, apply_with, call_with, list_given}
 use Rattle.core_builtins.specs.Numbers.{gives_number, number_called_by, number_constructed_by, number_given, number_to_wrap, with_number, wrap_number}
 use Rattle.core_builtins.specs.Radices.{is_radix, radix_given, radix_text, radix_units, with_radix}
 use Rattle.core_builtins.specs.Symbols.{described, description_given, description_value, descriptive_of, descriptive_string, gives_description, gives_symbol, symbol_made, symbol_of, with_description, with_symbol}
@@ -368,7 +368,11 @@ function_called-kept g this vs function.FunctionCall w s rk known =
 function_called-kept g this vs function.FunctionApply w s rk known =
     kept-if (FitsTask (Of (Call g this vs))) w (is_callable w.lists this) (apply_with this (first_of vs) (second_of vs)) not_a_function
     (apply_with-kept g this vs w this (first_of vs) (second_of vs) s rk (first-known w.lists vs known) (second-known w.lists vs known)) (not_function-kept (Of (Call g this vs)) w s)
-function_called-kept g this vs function.FunctionHasInstance w s rk known = unfit-kept (Of (Call g this vs)) w s
+function_called-kept g this vs function.FunctionHasInstance w s rk known = (
+  s,
+  (refl, (rk, (first-known w.lists vs known, tt))),
+  λ c u su l fit. flag-kept (Of (Call g this vs)) (Work operation.OrdinaryHasInstance (this ∷ first_of vs ∷ [])) u gives_flag c su fit (λ b. (su, (tt, tt))),
+)
 function_called-kept g this vs function.NumberToString w s rk known =
     with_number-kept (Of (Call g this vs)) w (with_radix (first_of vs)) (inner_value w.lists this) s (inner-known w this s rk) (λ n whole.
     with_radix-kept (Of (Call g this vs)) (takes_value g this vs) w (first_of vs) n s (first-known w.lists vs known))

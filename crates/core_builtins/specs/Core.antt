@@ -22,7 +22,7 @@ use Rattle.core_builtins.specs.Answers.{wrong_value}
 use Rattle.core_builtins.specs.Booleans.{boolean_called, boolean_constructed, boolean_to_string, boolean_value_of}
 use Rattle.core_builtins.specs.Errors.{error_constructed}
 use Rattle.core_builtins.specs.ErrorTexts.{error_to_string}
-use Rattle.core_builtins.specs.Functions.{function_apply, function_call}
+use Rattle.core_builtins.specs.Functions.{function_apply, function_call, function_has_instance}
 use Rattle.core_builtins.specs.Numbers.{number_called, number_constructed, number_value_of}
 use Rattle.core_builtins.specs.Radices.{number_to_string}
 use Rattle.core_builtins.specs.Symbols.{symbol_called, symbol_description, symbol_to_string, symbol_value_of}
@@ -47,7 +47,7 @@ prototype_called other = unfit
 abbrev pub function_called : BuiltinFunction → Value → List Value → Program
 function_called function.FunctionCall this arguments = function_call this arguments
 function_called function.FunctionApply this arguments = function_apply this arguments
-function_called function.FunctionHasInstance this arguments = unwritten
+function_called function.FunctionHasInstance this arguments = function_has_instance this arguments
 function_called function.NumberToString this arguments = number_to_string this arguments
 function_called function.NumberValueOf this arguments = number_value_of this
 function_called function.BooleanToString this arguments = boolean_to_string this

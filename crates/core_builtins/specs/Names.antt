@@ -4,7 +4,7 @@ use Rattle.es_model.specs.Belongs.{FrameName, NamesObject, NamesText, NamesValue
 use Rattle.core_builtins.specs.declared.frame.CoreFrame.{CoreFrame}
 use Rattle.core_builtins.specs.declared.frame.CoreFrame.TheVariants as core
 use Rattle.core_builtins.specs.declared.frame.FunctionFrame.{FunctionFrame}
-use Rattle.core_builtins.specs.declared.frame.FunctionFrame.TheVariants.{ListGiven, Called}
+use Rattle.core_builtins.specs.declared.frame.FunctionFrame.TheVariants.{ListGiven, Called, InstanceGiven}
 use Rattle.core_builtins.specs.declared.frame.WrapperFrame.{WrapperFrame}
 use Rattle.core_builtins.specs.declared.frame.WrapperFrame.TheVariants as wrapper
 use Rattle.core_builtins.specs.declared.frame.ErrorFrame.{ErrorFrame}
@@ -15,6 +15,7 @@ use Rattle.core_builtins.specs.declared.frame.ErrorTextFrame.TheVariants as text
 abbrev pub names_of_function : FunctionFrame → List FrameName
 names_of_function (ListGiven f) = NamesValue f.function ∷ NamesValue f.this ∷ []
 names_of_function Called = []
+names_of_function InstanceGiven = []
 
 abbrev pub names_of_wrapper : WrapperFrame → List FrameName
 names_of_wrapper wrapper.NumberGiven = []

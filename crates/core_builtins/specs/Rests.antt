@@ -4,14 +4,14 @@ use Rattle.es_model.specs.Program.{Program}
 use Rattle.core_builtins.specs.Constructed.{wrapper_given}
 use Rattle.core_builtins.specs.Errors.{cause_given, cause_had, error_given, message_given}
 use Rattle.core_builtins.specs.ErrorTexts.{message_got, message_text_given, name_got, name_text_given}
-use Rattle.core_builtins.specs.Functions.{called, list_given}
+use Rattle.core_builtins.specs.Functions.{called, instance_given, list_given}
 use Rattle.core_builtins.specs.Numbers.{number_given, number_to_wrap}
 use Rattle.core_builtins.specs.Radices.{radix_given}
 use Rattle.core_builtins.specs.Symbols.{description_given}
 use Rattle.core_builtins.specs.declared.frame.CoreFrame.{CoreFrame}
 use Rattle.core_builtins.specs.declared.frame.CoreFrame.TheVariants as core
 use Rattle.core_builtins.specs.declared.frame.FunctionFrame.{FunctionFrame}
-use Rattle.core_builtins.specs.declared.frame.FunctionFrame.TheVariants.{ListGiven, Called}
+use Rattle.core_builtins.specs.declared.frame.FunctionFrame.TheVariants.{ListGiven, Called, InstanceGiven}
 use Rattle.core_builtins.specs.declared.frame.WrapperFrame.{WrapperFrame}
 use Rattle.core_builtins.specs.declared.frame.WrapperFrame.TheVariants as wrapper
 use Rattle.core_builtins.specs.declared.frame.SymbolFrame.{SymbolFrame}
@@ -24,6 +24,7 @@ use Rattle.core_builtins.specs.declared.frame.ErrorTextFrame.TheVariants as text
 abbrev pub after_function : FunctionFrame → Completion → Program
 after_function (ListGiven f) c = list_given f.function f.this c
 after_function Called c = called c
+after_function InstanceGiven c = instance_given c
 
 abbrev pub after_wrapper : WrapperFrame → Completion → Program
 after_wrapper wrapper.NumberGiven c = number_given c

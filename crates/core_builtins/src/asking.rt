@@ -47,6 +47,15 @@ pub(crate) fn one(alloc: Global, value: Value) -> Result<Values, NoMemory>
     Ok(values)
 }
 
+/// A list of two values.
+pub(crate) fn two(alloc: Global, first: Value, second: Value) -> Result<Values, NoMemory>
+    ensures { IfOk result (λ values. values ≡ first ∷ second ∷ []) }
+{
+    let mut values = one(alloc, first)?;
+    values.push(second)?;
+    Ok(values)
+}
+
 /// What an algorithm goes on with, or what is thrown on. What the answer names is there.
 pub(crate) fn value_of(answer: Completion) -> Result<Value, Value>
     ensures taken { taken value_in (answered answer) ≡ or_throw result }

@@ -20,13 +20,15 @@ pub struct Calling {
     pub this: Value,
 }
 
-/// Function.prototype.call and apply (ECMA-262, 20.2.3.3, 20.2.3.1).
+/// Function.prototype.call, apply and @@hasInstance (ECMA-262, 20.2.3.3, 20.2.3.1, 20.2.3.6).
 #[derive(Drop)]
 pub enum FunctionFrame {
     /// the list of arguments (20.2.3.1, step 4)
     ListGiven(Calling),
     /// the call of the receiver (20.2.3.3, step 4; 20.2.3.1, step 6)
     Called,
+    /// OrdinaryHasInstance (20.2.3.6, step 2)
+    InstanceGiven,
 }
 
 /// The value of a new Number or Boolean object, with the class of its prototype and the new target.

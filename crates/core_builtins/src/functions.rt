@@ -7,15 +7,15 @@ ghost use Rattle.es_model.specs.World.{World};
 ghost use Rattle.object_heap.specs.Retains.{Retains};
 ghost use Rattle.object_heap.specs.Turns.{KeepsNamed};
 ghost use Rattle.core_builtins.specs.Answers.{rest_of};
-ghost use Rattle.core_builtins.specs.Functions.{apply_with, function_apply, function_call, list_given};
+ghost use Rattle.core_builtins.specs.Functions.{apply_with, function_apply, function_call, function_has_instance, instance_given, list_given};
 ghost use Rattle.core_builtins.specs.Names.{names_of};
 ghost use Rattle.core_builtins.specs.Turns.{StopsAt};
 
 use crate::arguments::{first_of, second_of};
-use crate::asking::one;
+use crate::asking::{one, two};
 use crate::frame::{Calling, CoreFrame, FunctionFrame};
 use crate::throwing::not_a_function;
-use es_model::{Completion, Operation, Request, Stop, Turn, Values};
+use es_model::{Completion, Operation, Reply, Request, Stop, Turn, Values};
 use object_heap::Heap;
 use property_keys::{Ledger, NoMemory, Steps, Value};
 use std::alloc::Global;
@@ -132,6 +132,36 @@ pub(crate) fn list_given(
             };
             Ok(Turn::Ask(request, CoreFrame::Function(FunctionFrame::Called)))
         }
+        Err(thrown) => Ok(Turn::Done(Completion::Throw(thrown))),
+    }
+}
+
+/// Function.prototype[@@hasInstance] (20.2.3.6).
+pub(crate) fn function_has_instance(
+    alloc: Global,
+    heap: &mut Heap,
+    this: Value,
+    arguments: &Values,
+) -> Result<Turn<CoreFrame>, Stop>
+    ensures stops { StopsAt heap.old heap.new (function_has_instance this arguments.now) result }
+    ensures named { (w : World) → KeepsNamed names_of w result }
+    ensures retains { Retains heap.old heap.new }
+{
+    let request = Request::Work {
+        operation: Operation::OrdinaryHasInstance,
+        operands: two(alloc, this, first_of(arguments))?,
+    };
+    Ok(Turn::Ask(request, CoreFrame::Function(FunctionFrame::InstanceGiven)))
+}
+
+/// What follows step 2.
+pub(crate) fn instance_given(heap: &mut Heap, answer: Completion) -> Result<Turn<CoreFrame>, Stop>
+    ensures stops { StopsAt heap.old heap.new (instance_given (answered answer)) result }
+    ensures named { (w : World) → KeepsNamed names_of w result }
+    ensures retains { Retains heap.old heap.new }
+{
+    match answer.flag() {
+        Ok(flag) => Ok(Turn::Done(Completion::Normal(Reply::Value(Value::Bool(flag))))),
         Err(thrown) => Ok(Turn::Done(Completion::Throw(thrown))),
     }
 }

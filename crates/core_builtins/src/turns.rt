@@ -25,7 +25,9 @@ use crate::errors::{cause_given, cause_had, error_constructed, error_given, mess
 use crate::frame::{
     CoreFrame, ErrorFrame, ErrorTextFrame, FunctionFrame, SymbolFrame, WrapperFrame,
 };
-use crate::functions::{function_apply, function_call, list_given};
+use crate::functions::{
+    function_apply, function_call, function_has_instance, instance_given, list_given,
+};
 use crate::numbers::{
     number_called, number_constructed, number_given, number_to_wrap, number_value_of,
 };
@@ -258,7 +260,7 @@ fn function_called<L: Ledger>(
         BuiltinFunction::SymbolDescription => symbol_description(heap, this, steps),
         BuiltinFunction::ErrorToString => error_to_string(heap, this, steps),
         BuiltinFunction::NumberToString => number_to_string(alloc, heap, this, arguments, steps),
-        BuiltinFunction::FunctionHasInstance => Ok(Turn::Done(Completion::Throw(Value::Undefined))),
+        BuiltinFunction::FunctionHasInstance => function_has_instance(alloc, heap, this, arguments),
     }
 }
 
@@ -366,6 +368,7 @@ fn after_function(
     match frame {
         FunctionFrame::ListGiven(calling) => list_given(heap, calling, answer),
         FunctionFrame::Called => Ok(Turn::Done(answer)),
+        FunctionFrame::InstanceGiven => instance_given(heap, answer),
     }
 }
 

@@ -52,6 +52,7 @@ operation-below operation.ToWanted = lit< tt
 operation-below operation.ListFromArrayLike = lit< tt
 operation-below operation.KeysFromArrayLike = lit< tt
 operation-below operation.InstanceOf = lit< tt
+operation-below operation.OrdinaryHasInstance = lit< tt
 operation-below operation.LooselyEqual = lit< tt
 operation-below operation.LessThan = lit< tt
 

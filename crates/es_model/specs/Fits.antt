@@ -78,6 +78,7 @@ FitsWork operation.ToWanted r = HasWanted r
 FitsWork operation.ListFromArrayLike r = HasList r
 FitsWork operation.KeysFromArrayLike r = HasKeys r
 FitsWork operation.InstanceOf r = HasFlag r
+FitsWork operation.OrdinaryHasInstance r = HasFlag r
 FitsWork operation.LooselyEqual r = HasFlag r
 FitsWork operation.LessThan r = HasFlag r
 
@@ -139,6 +140,7 @@ HasThreeOperands other = ⊥
 -- each operation has its number of operands
 abbrev pub HasOperands : Operation → List Value → Type 0
 HasOperands operation.InstanceOf operands = length operands ≡ 2
+HasOperands operation.OrdinaryHasInstance operands = length operands ≡ 2
 HasOperands operation.LooselyEqual operands = length operands ≡ 2
 HasOperands operation.LessThan operands = HasThreeOperands operands
 HasOperands other operands = length operands ≡ 1

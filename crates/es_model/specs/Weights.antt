@@ -25,6 +25,7 @@ operation_weight operation.ToWanted = 30
 operation_weight operation.ListFromArrayLike = 20
 operation_weight operation.KeysFromArrayLike = 20
 operation_weight operation.InstanceOf = 20
+operation_weight operation.OrdinaryHasInstance = 20
 operation_weight operation.LooselyEqual = 60
 operation_weight operation.LessThan = 40
 

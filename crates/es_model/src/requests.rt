@@ -79,8 +79,8 @@ pub enum Request {
         arguments: Values,
         target: ObjectId,
     },
-    /// An abstract operation: two operands for `InstanceOf` and `LooselyEqual`, three for `LessThan`, of which the third is the standard's LeftFirst, and one for
-    /// every other.
+    /// An abstract operation: two operands for `InstanceOf`, `OrdinaryHasInstance` and `LooselyEqual`, three for `LessThan`, of which the third is the standard's
+    /// LeftFirst, and one for every other.
     Work {
         operation: Operation,
         operands: Values,
@@ -114,6 +114,8 @@ pub enum Operation {
     KeysFromArrayLike,
     /// InstanceofOperator (13.10.2)
     InstanceOf,
+    /// OrdinaryHasInstance (7.3.21), of the function and the value
+    OrdinaryHasInstance,
     /// IsLooselyEqual (7.2.14)
     LooselyEqual,
     /// IsLessThan (7.2.13)

@@ -26,7 +26,7 @@ use Rattle.plain_builtins.specs.declared.words.Callee.{Callee}
 use Rattle.plain_builtins.specs.declared.words.Callee.TheVariants.{Row, Elsewhere, NoFunction}
 use Rattle.plain_builtins.proofs.KeptComparisons.{loosely_equal-kept, less_than-kept}
 use Rattle.plain_builtins.proofs.KeptConversions.{default-kept, number-kept, string-kept, to_text-kept, to_whole-kept, to_key-kept}
-use Rattle.plain_builtins.proofs.KeptInstances.{instance_of-kept}
+use Rattle.plain_builtins.proofs.KeptInstances.{instance_of-kept, ordinary-kept}
 use Rattle.plain_builtins.proofs.KeptLists.{list-kept, keys-kept, print-kept}
 use Rattle.plain_builtins.proofs.KeptWanted.{to_wanted-kept}
 
@@ -46,6 +46,7 @@ one-kept operation.ToWanted operands w v s known = to_wanted-kept operands w v s
 one-kept operation.ListFromArrayLike operands w v s known = list-kept operands w v s known
 one-kept operation.KeysFromArrayLike operands w v s known = keys-kept operands w v s known
 one-kept operation.InstanceOf operands w v s known = unfit-kept (Of (Work operation.InstanceOf operands)) w s
+one-kept operation.OrdinaryHasInstance operands w v s known = unfit-kept (Of (Work operation.OrdinaryHasInstance operands)) w s
 one-kept operation.LooselyEqual operands w v s known = unfit-kept (Of (Work operation.LooselyEqual operands)) w s
 one-kept operation.LessThan operands w v s known = unfit-kept (Of (Work operation.LessThan operands)) w s
 
@@ -60,6 +61,7 @@ two-kept operation.ToWanted operands w a b s ka kb = unfit-kept (Of (Work operat
 two-kept operation.ListFromArrayLike operands w a b s ka kb = unfit-kept (Of (Work operation.ListFromArrayLike operands)) w s
 two-kept operation.KeysFromArrayLike operands w a b s ka kb = unfit-kept (Of (Work operation.KeysFromArrayLike operands)) w s
 two-kept operation.InstanceOf operands w a b s ka kb = instance_of-kept operands w a b s ka kb
+two-kept operation.OrdinaryHasInstance operands w a b s ka kb = ordinary-kept operands w a b s ka kb
 two-kept operation.LooselyEqual operands w a b s ka kb = loosely_equal-kept operands w a b s ka kb
 two-kept operation.LessThan operands w a b s ka kb = unfit-kept (Of (Work operation.LessThan operands)) w s
 
@@ -83,6 +85,7 @@ three-kept operation.ToWanted operands w a b c s ka kb = unfit-kept (Of (Work op
 three-kept operation.ListFromArrayLike operands w a b c s ka kb = unfit-kept (Of (Work operation.ListFromArrayLike operands)) w s
 three-kept operation.KeysFromArrayLike operands w a b c s ka kb = unfit-kept (Of (Work operation.KeysFromArrayLike operands)) w s
 three-kept operation.InstanceOf operands w a b c s ka kb = unfit-kept (Of (Work operation.InstanceOf operands)) w s
+three-kept operation.OrdinaryHasInstance operands w a b c s ka kb = unfit-kept (Of (Work operation.OrdinaryHasInstance operands)) w s
 three-kept operation.LooselyEqual operands w a b c s ka kb = unfit-kept (Of (Work operation.LooselyEqual operands)) w s
 three-kept operation.LessThan operands w a b c s ka kb = less-kept operands w a b c s ka kb
 

@@ -31,7 +31,7 @@ use Rattle.es_model.proofs.Within.{go_on-within, within-cond, within-more}
 use Rattle.plain_builtins.specs.ArrayLikes.{gives_all, key_put, element_put, element_given, get_element, elements_left, elements_of, list_by}
 use Rattle.plain_builtins.specs.Comparisons.{says, equal_in, says_equal, numbered, primitives_equal, left_converted, right_converted, is_nullish, loosely_equal_by, numbers_less, as_text, less_by, primitives_less, converted_by, converted, right_after, left_first, left_after, right_first, less_than}
 use Rattle.plain_builtins.specs.Conversions.{cannot_convert, first_name, second_name, primitive_by, primitive_or, last_called, second_found, second_given, second_tried, first_called, first_found, first_given, ordinary_to_primitive, exotic_found, to_primitive_by, text_of, to_text_by, number_in, no_number, with_number, gives_number, whole_of, to_whole_by, index_of, key_of_number, key_in, to_key_by}
-use Rattle.plain_builtins.specs.Instances.{most_rounds, same_object, parent_found, instance_round, prototype_by, prototype_given, has_instance, handler_found, instance_of_by}
+use Rattle.plain_builtins.specs.Instances.{most_rounds, same_object, parent_found, instance_round, prototype_by, prototype_given, has_instance, handler_found, instance_of_by, ordinary_by}
 use Rattle.plain_builtins.specs.Plain.{one_operand, two_operands, less_than_by, three_operands, operands_in, work_of, work_program, print_row, row_program}
 use Rattle.plain_builtins.specs.Printing.{print_left, print}
 use Rattle.plain_builtins.specs.WantedFields.{field_name, fields_after, wanted_done, is_accessor_value, field_put, field_given, field_is_there, field_had, fields_left, no_fields, wanted_by}
@@ -206,6 +206,12 @@ instance_of-within : (r : ℕ) → 200 ≤ r → (v : Value) (f : Option ObjectI
 instance_of-within r enough v (Some f) = (2, lit< tt, λ c. then_method-within r 2 (handler_found v f) c (handler_found-within r enough v f))
 instance_of-within r enough v None = λ l m n o. tt
 
+ordinary_by-within : (r : ℕ) → 200 ≤ r → (f : Option ObjectId) (v : Value) → IsWithin r 20 (ordinary_by f v)
+ordinary_by-within r enough (Some f) v = λ l.
+    within-cond r 20 (is_callable_kind (kind l f)) (has_instance f (as_object v)) (says false)
+    (within-more r 2 20 (has_instance f (as_object v)) (omega arith) (has_instance-within r enough f (as_object v))) tt
+ordinary_by-within r enough None v = tt
+
 -- ---- ToPropertyDescriptor: what a list of fields asks for
 
 abbrev for_fields : List Field → ℕ
@@ -291,6 +297,7 @@ one-within r enough operation.ToWanted v = wanted-within r (as_object v)
 one-within r enough operation.ListFromArrayLike v = list-within r enough (as_object v) (collected.Values [])
 one-within r enough operation.KeysFromArrayLike v = list-within r enough (as_object v) (collected.Keys [])
 one-within r enough operation.InstanceOf v = tt
+one-within r enough operation.OrdinaryHasInstance v = tt
 one-within r enough operation.LooselyEqual v = tt
 one-within r enough operation.LessThan v = tt
 
@@ -305,6 +312,7 @@ two-within r enough operation.ToWanted a b = tt
 two-within r enough operation.ListFromArrayLike a b = tt
 two-within r enough operation.KeysFromArrayLike a b = tt
 two-within r enough operation.InstanceOf a b = instance_of-within r enough a (as_object b)
+two-within r enough operation.OrdinaryHasInstance a b = ordinary_by-within r enough (as_object a) b
 two-within r enough operation.LooselyEqual a b = loosely_equal-within r (as_object a) (as_object b) a b
 two-within r enough operation.LessThan a b = tt
 
@@ -328,6 +336,7 @@ three-within r operation.ToWanted a b c = tt
 three-within r operation.ListFromArrayLike a b c = tt
 three-within r operation.KeysFromArrayLike a b c = tt
 three-within r operation.InstanceOf a b c = tt
+three-within r operation.OrdinaryHasInstance a b c = tt
 three-within r operation.LooselyEqual a b c = tt
 three-within r operation.LessThan a b c = less_than_by-within r a b c
 

@@ -52,9 +52,13 @@ abbrev pub has_instance : ObjectId → Option ObjectId → Program
 has_instance f (Some x) = get_named f (codes "prototype") (prototype_given x)
 has_instance f None = says false
 
--- step 1 comes first where it is not known that the object can be called
-abbrev pub ordinary_has_instance : ObjectId → Value → Program
-ordinary_has_instance f v = look (λ l. if is_callable_kind (kind l f) then has_instance f (as_object v) else says false)
+-- step 1 comes first where it is not known that the value can be called
+abbrev pub ordinary_by : Option ObjectId → Value → Program
+ordinary_by (Some f) v = look (λ l. if is_callable_kind (kind l f) then has_instance f (as_object v) else says false)
+ordinary_by None v = says false
+
+abbrev pub ordinary_has_instance : Value → Value → Program
+ordinary_has_instance f v = ordinary_by (as_object f) v
 
 -- ---- InstanceofOperator (13.10.2)
 

@@ -18,7 +18,7 @@ use Rattle.es_model.specs.programs.Testing.{is_constructor_kind}
 use Rattle.plain_builtins.specs.ArrayLikes as array_like
 use Rattle.plain_builtins.specs.Comparisons.{loosely_equal, less_than}
 use Rattle.plain_builtins.specs.Conversions.{to_primitive, to_text, to_whole, to_key}
-use Rattle.plain_builtins.specs.Instances.{instance_of}
+use Rattle.plain_builtins.specs.Instances.{instance_of, ordinary_has_instance}
 use Rattle.plain_builtins.specs.Printing.{print}
 use Rattle.plain_builtins.specs.WantedFields.{to_wanted}
 use Rattle.plain_builtins.specs.declared.words.Callee.{Callee}
@@ -41,11 +41,13 @@ one_operand operation.ToWanted v = to_wanted v
 one_operand operation.ListFromArrayLike v = array_like.list_of v (collected.Values [])
 one_operand operation.KeysFromArrayLike v = array_like.list_of v (collected.Keys [])
 one_operand operation.InstanceOf v = unfit
+one_operand operation.OrdinaryHasInstance v = unfit
 one_operand operation.LooselyEqual v = unfit
 one_operand operation.LessThan v = unfit
 
 abbrev pub two_operands : Operation → Value → Value → Program
 two_operands operation.InstanceOf a b = instance_of a b
+two_operands operation.OrdinaryHasInstance a b = ordinary_has_instance a b
 two_operands operation.LooselyEqual a b = loosely_equal a b
 two_operands other a b = unfit
 

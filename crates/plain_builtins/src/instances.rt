@@ -9,7 +9,7 @@ ghost use Rattle.es_model.specs.programs.Errors.{not_a_function};
 ghost use Rattle.es_model.specs.programs.Methods.{method_in, with_method};
 ghost use Rattle.es_model.specs.programs.Testing.{as_object, is_callable_kind};
 ghost use Rattle.plain_builtins.specs.Counting.{IsAfterFirst};
-ghost use Rattle.plain_builtins.specs.Instances.{handler_called, handler_found, handler_given, has_instance, instance_of, instance_round, parent_found, parent_given, prototype_by, prototype_given, same_object};
+ghost use Rattle.plain_builtins.specs.Instances.{handler_called, handler_found, handler_given, has_instance, instance_of, instance_round, ordinary_by, ordinary_has_instance, parent_found, parent_given, prototype_by, prototype_given, same_object};
 ghost use Rattle.es_model.specs.Completions.{answered};
 ghost use Rattle.es_model.specs.World.{World};
 ghost use Rattle.object_heap.specs.Retains.{Retains};
@@ -155,6 +155,35 @@ fn has_instance(
             let frame = InstanceFrame::PrototypeGiven(object);
             get_named(heap, function, b"prototype", PlainFrame::Instance(frame))
         }
+    }
+}
+
+/// OrdinaryHasInstance of any value.
+pub(crate) fn ordinary_has_instance(
+    heap: &mut Heap,
+    function: Value,
+    value: Value,
+) -> Result<Turn<PlainFrame>, Stop>
+    ensures stops { StopsAt heap.old heap.new (ordinary_has_instance function value) result }
+    ensures named { (w : World) → IsKnown w.lists value → KeepsNamed names_of w result }
+    ensures retains { Retains heap.old heap.new }
+{
+    match as_object(function) {
+        None => Ok(Turn::Done(Completion::Normal(Reply::Flag(false)))),
+        Some(function) => ordinary_by(heap, function, value),
+    }
+}
+
+/// Step 1, of an object.
+fn ordinary_by(heap: &mut Heap, function: ObjectId, value: Value) -> Result<Turn<PlainFrame>, Stop>
+    ensures stops { StopsAt heap.old heap.new (ordinary_by (Some function) value) result }
+    ensures named { (w : World) → IsKnown w.lists value → KeepsNamed names_of w result }
+    ensures retains { Retains heap.old heap.new }
+{
+    if heap.kind(function).is_callable() {
+        has_instance(heap, function, as_object(value))
+    } else {
+        Ok(Turn::Done(Completion::Normal(Reply::Flag(false))))
     }
 }
 

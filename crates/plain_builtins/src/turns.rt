@@ -26,7 +26,10 @@ use crate::frame::{
     ComparedFrame, ConvertedFrame, InstanceFrame, ListedFrame, PlainFrame, PrimitiveFrame,
     PrintedFrame, WantedFrame,
 };
-use crate::instances::{handler_called, handler_given, instance_of, parent_given, prototype_given};
+use crate::instances::{
+    handler_called, handler_given, instance_of, ordinary_has_instance, parent_given,
+    prototype_given,
+};
 use crate::listing::{element_given, length_given, length_got, list_of};
 use crate::numbers::{to_whole, whole_given};
 use crate::primitives::{
@@ -182,9 +185,10 @@ fn one_operand<L: Ledger>(
             let keys = Collected::Keys(KeyList::new(alloc));
             list_of(heap, value, keys, steps)
         }
-        Operation::InstanceOf | Operation::LooselyEqual | Operation::LessThan => {
-            Ok(Turn::Done(Completion::Throw(Value::Undefined)))
-        }
+        Operation::InstanceOf
+        | Operation::OrdinaryHasInstance
+        | Operation::LooselyEqual
+        | Operation::LessThan => Ok(Turn::Done(Completion::Throw(Value::Undefined))),
     }
 }
 
@@ -202,6 +206,7 @@ fn two_operands<L: Ledger>(
 {
     match operation {
         Operation::InstanceOf => instance_of(heap, left, right, steps),
+        Operation::OrdinaryHasInstance => ordinary_has_instance(heap, left, right),
         Operation::LooselyEqual => loosely_equal(alloc, heap, left, right, steps),
         Operation::ToPrimitiveDefault
         | Operation::ToPrimitiveNumber
@@ -242,6 +247,7 @@ fn three_operands<L: Ledger>(
         | Operation::ListFromArrayLike
         | Operation::KeysFromArrayLike
         | Operation::InstanceOf
+        | Operation::OrdinaryHasInstance
         | Operation::LooselyEqual => Ok(Turn::Done(Completion::Throw(Value::Undefined))),
     }
 }

@@ -40,6 +40,8 @@ pub(crate) const CALL: ObjectId = ObjectId(29);
 
 pub(crate) const APPLY: ObjectId = ObjectId(30);
 
+pub(crate) const FUNCTION_HAS_INSTANCE: ObjectId = ObjectId(31);
+
 pub(crate) const NUMBER_TO_STRING: ObjectId = ObjectId(32);
 
 pub(crate) const NUMBER_VALUE_OF: ObjectId = ObjectId(33);

@@ -17,7 +17,7 @@ pub(crate) struct Row(pub(crate) Step, pub(crate) Seen);
 const FIVE: Value = Value::Whole(5);
 
 /// How many paths there are.
-pub(crate) const PATHS: usize = 15;
+pub(crate) const PATHS: usize = 16;
 
 pub(crate) fn numbered(number: usize) -> &'static [Row] {
     match number {
@@ -35,6 +35,7 @@ pub(crate) fn numbered(number: usize) -> &'static [Row] {
         11 => &errors::CAUSES,
         12 => &errors::THROWS,
         13 => &numbers::RADICES,
+        14 => &functions::INSTANCES,
         _ => &error_texts::TEXTS,
     }
 }

@@ -18,6 +18,8 @@ pub(crate) enum Seen {
     /// a call of a function with a receiver and arguments
     AsksCall(ObjectId, Value, &'static [Value]),
     AsksWork(Operation, Value),
+    /// OrdinaryHasInstance of a function and a value
+    AsksInstance(Value, Value),
     Value(Value),
     /// a text with these code units
     Text(&'static str),
@@ -132,6 +134,13 @@ fn is_request(heap: &Heap, request: &Request, wanted: Seen) -> bool {
             },
             Seen::AsksWork(wanted, value),
         ) => *operation == wanted && are_values(operands, &[value]),
+        (
+            Request::Work {
+                operation: Operation::OrdinaryHasInstance,
+                operands,
+            },
+            Seen::AsksInstance(function, value),
+        ) => are_values(operands, &[function, value]),
         _ => false,
     }
 }

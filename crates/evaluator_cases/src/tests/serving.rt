@@ -109,7 +109,7 @@ fn worked(
             let second = operand(operands, 1);
             Reply::Flag(same_value(first, second) || is_nullish(first) && is_nullish(second))
         }
-        Operation::InstanceOf => Reply::Flag(false),
+        Operation::InstanceOf | Operation::OrdinaryHasInstance => Reply::Flag(false),
         _ => Reply::Value(first),
     };
     Ok(Completion::Normal(reply))

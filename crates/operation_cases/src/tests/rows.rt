@@ -63,7 +63,7 @@ const SEVENTH_MESSAGE: Complete = Complete::Stored {
 };
 
 /// How many paths there are.
-pub(crate) const PATHS: usize = 21;
+pub(crate) const PATHS: usize = 22;
 
 pub(crate) fn numbered(number: usize) -> &'static [Row] {
     match number {
@@ -87,6 +87,7 @@ pub(crate) fn numbered(number: usize) -> &'static [Row] {
         17 => &lists::LIST_OF_KEYS,
         18 => &lists::LIST_THROWS,
         19 => &calls::PRINT,
+        20 => &instances::ORDINARY,
         _ => &calls::CALLS,
     }
 }

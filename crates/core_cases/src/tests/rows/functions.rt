@@ -2,8 +2,8 @@
 
 use super::{FIVE, Row};
 use crate::tests::numbers::{
-    APPLY, CALL, FIRST_OBJECT, FUNCTION, FUNCTION_PROTOTYPE, OBJECT, OBJECT_PROTOTYPE,
-    THROW_TYPE_ERROR, TYPE_ERROR_PROTOTYPE,
+    APPLY, CALL, FIRST_OBJECT, FUNCTION, FUNCTION_HAS_INSTANCE, FUNCTION_PROTOTYPE, OBJECT,
+    OBJECT_PROTOTYPE, THROW_TYPE_ERROR, TYPE_ERROR_PROTOTYPE,
 };
 use crate::tests::seen::Seen;
 use crate::tests::steps::{Given, Step};
@@ -104,6 +104,39 @@ pub(crate) static APPLIES: [Row; 11] = [
         Step::Call(APPLY, Value::Object(OBJECT), &[]),
         Seen::AsksCall(OBJECT, Value::Undefined, &[]),
     ),
+];
+
+/// Function.prototype[@@hasInstance] (20.2.3.6): OrdinaryHasInstance of the receiver, whatever that is, and of the first argument.
+pub(crate) static INSTANCES: [Row; 6] = [
+    Row(
+        Step::Call(
+            FUNCTION_HAS_INSTANCE,
+            Value::Object(OBJECT),
+            &[FIVE, Value::Null],
+        ),
+        Seen::AsksInstance(Value::Object(OBJECT), FIVE),
+    ),
+    Row(
+        Step::Answer(Given::Flag(true)),
+        Seen::Value(Value::Bool(true)),
+    ),
+    Row(
+        Step::Call(FUNCTION_HAS_INSTANCE, FIVE, &[]),
+        Seen::AsksInstance(FIVE, Value::Undefined),
+    ),
+    Row(
+        Step::Answer(Given::Flag(false)),
+        Seen::Value(Value::Bool(false)),
+    ),
+    Row(
+        Step::Call(
+            FUNCTION_HAS_INSTANCE,
+            Value::Undefined,
+            &[Value::Object(OBJECT)],
+        ),
+        Seen::AsksInstance(Value::Undefined, Value::Object(OBJECT)),
+    ),
+    Row(Step::Answer(Given::Thrown(FIVE)), Seen::Thrown(FIVE)),
 ];
 
 /// %Function.prototype% gives undefined (20.2.3). Function and %ThrowTypeError% throw.

@@ -203,3 +203,51 @@ pub(crate) static INSTANCE_THROWS: [Row; 13] = [
     Row(Step::Answer(Given::Thrown(FIVE)), Seen::Thrown(FIVE)),
     Row(Step::Left, Seen::Turns(9)),
 ];
+
+/// OrdinaryHasInstance of any function and value (7.3.21): what cannot be called has no instances, and no value but an object is one.
+pub(crate) static ORDINARY: [Row; 8] = [
+    Row(
+        Step::Start(Question::Two(
+            Operation::OrdinaryHasInstance,
+            Value::Object(OBJECT),
+            Value::Object(ARRAY_PROTOTYPE),
+        )),
+        Seen::AsksRead(OBJECT, PropKey::Name(PROTOTYPE)),
+    ),
+    Row(
+        Step::Answer(Given::Value(Value::Object(OBJECT_PROTOTYPE))),
+        Seen::AsksProto(ARRAY_PROTOTYPE),
+    ),
+    Row(
+        Step::Answer(Given::Proto(Some(OBJECT_PROTOTYPE))),
+        Seen::Flag(true),
+    ),
+    Row(
+        Step::Start(Question::Two(
+            Operation::OrdinaryHasInstance,
+            Value::Object(OBJECT_PROTOTYPE),
+            Value::Object(ARRAY_PROTOTYPE),
+        )),
+        Seen::Flag(false),
+    ),
+    Row(
+        Step::Start(Question::Two(
+            Operation::OrdinaryHasInstance,
+            FIVE,
+            Value::Object(ARRAY_PROTOTYPE),
+        )),
+        Seen::Flag(false),
+    ),
+    Row(
+        Step::Start(Question::Two(Operation::OrdinaryHasInstance, Value::Object(OBJECT), FIVE)),
+        Seen::Flag(false),
+    ),
+    Row(
+        Step::Start(Question::One(
+            Operation::OrdinaryHasInstance,
+            Value::Object(OBJECT),
+        )),
+        Seen::Thrown(Value::Undefined),
+    ),
+    Row(Step::Left, Seen::Turns(9)),
+];
