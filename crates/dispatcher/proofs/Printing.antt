@@ -17,12 +17,13 @@ use Rattle.evaluator.specs.Contexts.{Context, context}
 use Rattle.evaluator.specs.Functions.{body_ended, construct_answered, script_program}
 use Rattle.evaluator.specs.Machine.{pending_rest, unwound, within}
 use Rattle.evaluator.specs.Plans.{asked_program, item_program}
+use Rattle.core_builtins.specs.Rests as core
 use Rattle.ordinary_object.specs.Rests as ordinary
 use Rattle.plain_builtins.specs.Rests as plain
 use Rattle.es_serve.specs.Serve.{model}
 use Rattle.es_serve.proofs.Models.{keeps-printed}
 use Rattle.dispatcher.specs.declared.frames.Frame.{Frame}
-use Rattle.dispatcher.specs.declared.frames.Frame.TheVariants.{Ordinary, Plain, Running}
+use Rattle.dispatcher.specs.declared.frames.Frame.TheVariants.{Ordinary, Plain, Core, Running}
 use Rattle.dispatcher.specs.declared.state.State.{State}
 use Rattle.dispatcher.specs.declared.state.State.TheVariants.{Starting, Serving, Returning}
 use Rattle.dispatcher.specs.Dispatching.{PrintsOn}
@@ -68,6 +69,7 @@ body-prints here pending n p w =
 frame-prints : (script : Tree) (f : Frame) (n : ℕ) (c : Completion) (w : World) → HasPrinted w (world_of (frame_rest script f model n c w))
 frame-prints script (Ordinary f) n c w = program-prints (ordinary.program_after f c) n w
 frame-prints script (Plain f) n c w = program-prints (plain.program_after f c) n w
+frame-prints script (Core f) n c w = program-prints (core.program_after f c) n w
 frame-prints script (Running (frame.Body f)) n c w = body-prints (context script f.body f.cells) f.pending n (asked_program (context script f.body f.cells) f.asked c) w
 frame-prints script (Running (frame.Constructing k)) n c w = program-prints (construct_answered script k.function k.callee k.arguments k.target c) n w
 

@@ -1,5 +1,5 @@
 -- The table is the model's.
-use Rattle.std.proofs.Common.{◌≡◌, ℕ, suc, Bool, true, false, cond, Option, Some, None, List, refl, sym, ◌∙◌, ap, nat_le, nat_lt}
+use Rattle.std.proofs.Common.{◌≡◌, ℕ, suc, Bool, true, false, cond, Option, Some, None, List, refl, sym, ◌∙◌, ap, nat_eq, nat_le, nat_lt}
 use Rattle.property_keys.specs.declared.identifiers.ObjectId.{ObjectId}
 use Rattle.property_keys.specs.declared.keys.PropKey.{PropKey}
 use Rattle.property_keys.specs.declared.values.Value.{Value}
@@ -19,9 +19,11 @@ use Rattle.es_model.specs.programs.Errors.{entering, unwritten, not_a_constructo
 use Rattle.es_model.specs.programs.Testing.{is_constructor_kind}
 use Rattle.es_model.proofs.Rests.{leaves-changed}
 use Rattle.es_model.proofs.Unwound.{stays_none}
-use Rattle.plain_builtins.specs.Plain.{call_by, callee_of, plain_program}
+use Rattle.core_builtins.specs.Core.{call_of as core_call, construct_of as core_construct, core_program, row_called, row_of}
+use Rattle.plain_builtins.specs.Plain.{call_by, callee_of, plain_program, print_row, row_program}
 use Rattle.es_serve.specs.Serve.{call_of, call_program, construct_of, is_counted, method_of, method_program, noting}
-use Rattle.dispatcher.specs.Table.{call_service, callee_service, construct_service, method_service, noted_at, noted_for, service_program, TableServes}
+use Rattle.dispatcher.specs.declared.table.Provider.TheVariants.{Core, Plain}
+use Rattle.dispatcher.specs.Table.{begin_program, call_service, callee_service, construct_service, method_service, noted_at, noted_for, service_program, TableServes}
 
 -- ---- the note of a site
 
@@ -89,6 +91,10 @@ plain-called : (S : Server) (n : ℕ) (k : ObjectKind) (f : ObjectId) (this : Va
     run S (call_by (callee_of k) arguments) n w ≡ run S (plain_program (Call (value.Object f) this arguments)) n w
 plain-called S n k f this arguments w e = ap (λ x. run S (call_by (callee_of x) arguments) n w) (sym e)
 
+-- what comes to the same behind the charge comes to the same where it is entered
+entered-same : (S : Server) (n : ℕ) (p q : Program) (w : World) → run S p (suc n) (charged w 1) ≡ run S q (suc n) (charged w 1) → run S (entering p) n w ≡ run S (entering q) n w
+entered-same S n p q w e = ap (λ (o : Outcome). cond (nat_le 1 w.turns) (cond (nat_lt n nested_limit) o (run S too_many_calls n (charged w 1))) (Halt w 0)) e
+
 -- a built-in function is entered, and its kind is the same then
 plain-entered : (S : Server) (n : ℕ) (k : ObjectKind) (f : ObjectId) (this : Value) (arguments : List Value) (w : World) → kind w.lists f ≡ k →
     run S (entering (call_by (callee_of k) arguments)) n w ≡ run S (entering (plain_program (Call (value.Object f) this arguments))) n w
@@ -96,11 +102,31 @@ plain-entered S n k f this arguments w e =
     ap (λ (o : Outcome). cond (nat_le 1 w.turns) (cond (nat_lt n nested_limit) o (run S too_many_calls n (charged w 1))) (Halt w 0))
     (plain-called S (suc n) k f this arguments (charged w 1) (charged-kind w f ∙ e))
 
+core-entered : (S : Server) (n : ℕ) (k : ObjectKind) (f : ObjectId) (this : Value) (arguments : List Value) (w : World) → kind w.lists f ≡ k →
+    run S (entering (core_call (row_of k) f this arguments)) n w ≡ run S (entering (core_program (Call (value.Object f) this arguments))) n w
+core-entered S n k f this arguments w e =
+    entered-same S n (core_call (row_of k) f this arguments) (core_program (Call (value.Object f) this arguments)) w
+    (ap (λ x. run S (core_call (row_of x) f this arguments) (suc n) (charged w 1)) (sym (charged-kind w f ∙ e)))
+
+core-constructed : (S : Server) (n : ℕ) (k : ObjectKind) (f : ObjectId) (arguments : List Value) (target : ObjectId) (w : World) → kind w.lists f ≡ k →
+    run S (entering (core_construct (row_of k) arguments target)) n w ≡ run S (entering (core_program (Construct f arguments target))) n w
+core-constructed S n k f arguments target w e =
+    entered-same S n (core_construct (row_of k) arguments target) (core_program (Construct f arguments target)) w
+    (ap (λ x. run S (core_construct (row_of x) arguments target) (suc n) (charged w 1)) (sym (charged-kind w f ∙ e)))
+
+-- the row of print stands elsewhere
+builtin-served : (S : Server) (n : ℕ) (script : Tree) (row : ℕ) (constructor : Bool) (proxy : Option ObjectId) (f : ObjectId) (this : Value) (arguments : List Value) (w : World) (b : Bool) →
+    kind w.lists f ≡ kind_of.Builtin row constructor proxy →
+    run S (entering (cond b (row_program row arguments) (row_called row f this arguments))) n w
+    ≡ run S (entering (begin_program script (cond b Plain Core) (Call (value.Object f) this arguments))) n w
+builtin-served S n script row constructor proxy f this arguments w true e = plain-entered S n (kind_of.Builtin row constructor proxy) f this arguments w e
+builtin-served S n script row constructor proxy f this arguments w false e = core-entered S n (kind_of.Builtin row constructor proxy) f this arguments w e
+
 call-served : (S : Server) (n : ℕ) (script : Tree) (k : ObjectKind) (f : ObjectId) (this : Value) (arguments : List Value) (w : World) → kind w.lists f ≡ k →
     run S (call_of script k f this arguments) n w ≡ run S (service_program script (call_service k) (Call (value.Object f) this arguments)) n w
 call-served S n script kind_of.Ordinary f this arguments w e = plain-called S n kind_of.Ordinary f this arguments w e
 call-served S n script (kind_of.Function function constructor strict) f this arguments w e = refl
-call-served S n script (kind_of.Builtin row constructor proxy) f this arguments w e = plain-entered S n (kind_of.Builtin row constructor proxy) f this arguments w e
+call-served S n script (kind_of.Builtin row constructor proxy) f this arguments w e = builtin-served S n script row constructor proxy f this arguments w (nat_eq row print_row) e
 call-served S n script kind_of.Array f this arguments w e = plain-called S n kind_of.Array f this arguments w e
 call-served S n script (kind_of.Text t) f this arguments w e = plain-called S n (kind_of.Text t) f this arguments w e
 call-served S n script (kind_of.Wrapper v) f this arguments w e = plain-called S n (kind_of.Wrapper v) f this arguments w e
@@ -130,7 +156,7 @@ construct-served : (S : Server) (n : ℕ) (script : Tree) (k : ObjectKind) (f : 
 construct-served S n script kind_of.Ordinary f arguments target w e = plain-constructed S n kind_of.Ordinary f arguments target w e
 construct-served S n script (kind_of.Function function true strict) f arguments target w e = refl
 construct-served S n script (kind_of.Function function false strict) f arguments target w e = plain-constructed S n (kind_of.Function function false strict) f arguments target w e
-construct-served S n script (kind_of.Builtin row true proxy) f arguments target w e = refl
+construct-served S n script (kind_of.Builtin row true proxy) f arguments target w e = core-constructed S n (kind_of.Builtin row true proxy) f arguments target w e
 construct-served S n script (kind_of.Builtin row false proxy) f arguments target w e = plain-constructed S n (kind_of.Builtin row false proxy) f arguments target w e
 construct-served S n script kind_of.Array f arguments target w e = plain-constructed S n kind_of.Array f arguments target w e
 construct-served S n script (kind_of.Text t) f arguments target w e = plain-constructed S n (kind_of.Text t) f arguments target w e

@@ -1,5 +1,5 @@
 -- Who serves what.
-use Rattle.std.specs.Prelude.{◌≡◌, ℕ, if◌then◌else◌, List, Option, Some, None}
+use Rattle.std.specs.Prelude.{◌≡◌, ℕ, nat_eq, if◌then◌else◌, List, Option, Some, None}
 use Rattle.property_keys.specs.declared.identifiers.ObjectId.{ObjectId}
 use Rattle.property_keys.specs.declared.keys.PropKey.{PropKey}
 use Rattle.property_keys.specs.declared.values.Value.{Value}
@@ -19,11 +19,12 @@ use Rattle.es_model.specs.World.{Lists, World, kind}
 use Rattle.es_model.specs.programs.Errors.{entering, unwritten}
 use Rattle.evaluator.specs.Functions as functions
 use Rattle.ordinary_object.specs.Ordinary.{ordinary_program}
-use Rattle.plain_builtins.specs.Plain.{plain_program}
+use Rattle.core_builtins.specs.Core.{core_program}
+use Rattle.plain_builtins.specs.Plain.{plain_program, print_row}
 use Rattle.es_serve.specs.Lines.{print_line}
 use Rattle.es_serve.specs.Serve.{is_counted, request_program}
 use Rattle.dispatcher.specs.declared.table.Provider.{Provider}
-use Rattle.dispatcher.specs.declared.table.Provider.TheVariants.{Ordinary, Plain, Running, Unwritten}
+use Rattle.dispatcher.specs.declared.table.Provider.TheVariants.{Ordinary, Plain, Core, Running, Unwritten}
 use Rattle.dispatcher.specs.declared.table.Service.{Service}
 use Rattle.dispatcher.specs.declared.table.Service.TheVariants.{Begins, Enters, Prints}
 
@@ -35,10 +36,14 @@ method_service (kind_of.Arguments cells) = Begins Unwritten
 method_service (kind_of.Proxy target handler callable constructor) = Enters Unwritten
 method_service other = Begins Ordinary
 
+-- where the algorithm of a built-in function stands, by its row
+abbrev pub builtin_provider : ℕ → Provider
+builtin_provider row = if nat_eq row print_row then Plain else Core
+
 -- a call, by the kind of the function. What cannot be called goes to `plain_builtins`, which throws
 abbrev pub call_service : ObjectKind → Service
 call_service (kind_of.Function function constructor strict) = Enters (Running function)
-call_service (kind_of.Builtin row constructor proxy) = Enters Plain
+call_service (kind_of.Builtin row constructor proxy) = Enters (builtin_provider row)
 call_service (kind_of.Proxy target handler callable constructor) = if callable then Enters Unwritten else Begins Plain
 call_service other = Begins Plain
 
@@ -49,7 +54,7 @@ callee_service l other = Begins Plain
 -- a construction, in the same way
 abbrev pub construct_service : ObjectKind → Service
 construct_service (kind_of.Function function constructor strict) = if constructor then Enters (Running function) else Begins Plain
-construct_service (kind_of.Builtin row constructor proxy) = if constructor then Enters Unwritten else Begins Plain
+construct_service (kind_of.Builtin row constructor proxy) = if constructor then Enters Core else Begins Plain
 construct_service (kind_of.Proxy target handler callable constructor) = if constructor then Enters Unwritten else Begins Plain
 construct_service other = Begins Plain
 
@@ -85,6 +90,7 @@ body_program script function other = unwritten
 abbrev pub begin_program : Tree → Provider → Request → Program
 begin_program script Ordinary q = ordinary_program q
 begin_program script Plain q = plain_program q
+begin_program script Core q = core_program q
 begin_program script (Running function) q = body_program script function q
 begin_program script Unwritten q = unwritten
 

@@ -17,7 +17,7 @@ ghost use Rattle.dispatcher.specs.declared.state.Entry.{Entry as Waiting};
 
 use crate::bodies::begin_body;
 use crate::errors::too_many_calls;
-use crate::frames::{Frame, of_ordinary, of_plain, of_running};
+use crate::frames::{Frame, of_core, of_ordinary, of_plain, of_running};
 use crate::noting::note;
 use crate::stack::take;
 use crate::state::{Entry, Next, State};
@@ -45,6 +45,7 @@ fn begin<L: Ledger>(
     match provider {
         Provider::Ordinary => of_ordinary(ordinary_object::start(alloc, heap, &request, steps)),
         Provider::Plain => of_plain(plain_builtins::start(alloc, heap, &request, steps)),
+        Provider::Core => of_core(core_builtins::start(alloc, heap, &request, steps)),
         Provider::Running(function) => {
             of_running(begin_body(heap, script, function, request, steps))
         }

@@ -12,9 +12,11 @@ ghost use Rattle.object_heap.specs.Stands.{HeapView, StandsFor};
 ghost use Rattle.object_heap.specs.Turns.{IsTurnOf};
 ghost use Rattle.evaluator.specs.Machine.{eval_rest};
 ghost use Rattle.ordinary_object.specs.Rests.{program_after as after_ordinary};
+ghost use Rattle.core_builtins.specs.Rests.{program_after as after_core};
 ghost use Rattle.plain_builtins.specs.Rests.{program_after as after_plain};
 ghost use Rattle.dispatcher.specs.Rests.{frame_rest};
 
+use core_builtins::CoreFrame;
 use es_model::{Completion, Stop, Turn};
 use es_tree::Checked;
 use evaluator::EvalFrame;
@@ -29,6 +31,7 @@ use std::alloc::Global;
 pub(crate) enum Frame {
     Ordinary(OrdinaryFrame),
     Plain(PlainFrame),
+    Core(CoreFrame),
     Running(EvalFrame),
 }
 
@@ -47,6 +50,16 @@ pub(crate) fn of_plain(turn: Result<Turn<PlainFrame>, Stop>) -> Result<Turn<Fram
 {
     match turn {
         Ok(Turn::Ask(request, frame)) => Ok(Turn::Ask(request, Frame::Plain(frame))),
+        Ok(Turn::Done(answer)) => Ok(Turn::Done(answer)),
+        Err(stop) => Err(stop),
+    }
+}
+
+pub(crate) fn of_core(turn: Result<Turn<CoreFrame>, Stop>) -> Result<Turn<Frame>, Stop>
+    ensures { (script : Tree) (old new : HeapView) (w : World) (S : Server) (n : ℕ) (o : Outcome) → IsTurnOf (program_rest after_core) old new w S n o turn → IsTurnOf (frame_rest script) old new w S n o result }
+{
+    match turn {
+        Ok(Turn::Ask(request, frame)) => Ok(Turn::Ask(request, Frame::Core(frame))),
         Ok(Turn::Done(answer)) => Ok(Turn::Done(answer)),
         Err(stop) => Err(stop),
     }
@@ -78,6 +91,7 @@ pub(crate) fn resume<L: Ledger>(
             of_ordinary(ordinary_object::resume(alloc, heap, frame, answer, steps))
         }
         Frame::Plain(frame) => of_plain(plain_builtins::resume(alloc, heap, frame, answer, steps)),
+        Frame::Core(frame) => of_core(core_builtins::resume(alloc, heap, frame, answer, steps)),
         Frame::Running(frame) => {
             of_running(evaluator::resume(heap, script, frame, answer, steps))
         }

@@ -3,9 +3,9 @@
 ghost use Rattle.std.specs.Prelude.{◌≡◌};
 ghost use Rattle.es_model.specs.World.{World};
 ghost use Rattle.object_heap.specs.Stands.{StandsFor};
-ghost use Rattle.dispatcher.specs.Table.{call_service, callee_service, construct_service, method_service, served_by};
+ghost use Rattle.dispatcher.specs.Table.{builtin_provider, call_service, callee_service, construct_service, method_service, served_by};
 
-use es_model::{ObjectKind, Request};
+use es_model::{Intrinsic, ObjectKind, Request};
 use es_tree::FunctionNo;
 use object_heap::Heap;
 use property_keys::Value;
@@ -17,6 +17,8 @@ pub(crate) enum Provider {
     Ordinary,
     /// `plain_builtins`
     Plain,
+    /// `core_builtins`
+    Core,
     /// `evaluator`, with the function whose body runs
     Running(FunctionNo),
     /// Nowhere yet: undefined is thrown.
@@ -50,12 +52,22 @@ fn method_service(kind: &ObjectKind) -> Service
     }
 }
 
+fn builtin_provider(row: u32) -> Provider
+    ensures { result ≡ builtin_provider row }
+{
+    if row == Intrinsic::Print.object().0 {
+        Provider::Plain
+    } else {
+        Provider::Core
+    }
+}
+
 fn call_service(kind: &ObjectKind) -> Service
     ensures { result ≡ call_service kind.now }
 {
     match kind {
         ObjectKind::Function { function, .. } => Service::Enters(Provider::Running(*function)),
-        ObjectKind::Builtin { .. } => Service::Enters(Provider::Plain),
+        ObjectKind::Builtin { row, .. } => Service::Enters(builtin_provider(*row)),
         ObjectKind::Proxy { callable, .. } => {
             if *callable {
                 Service::Enters(Provider::Unwritten)
@@ -101,7 +113,14 @@ fn construct_service(kind: &ObjectKind) -> Service
                 Service::Begins(Provider::Plain)
             }
         }
-        ObjectKind::Builtin { constructor, .. } | ObjectKind::Proxy { constructor, .. } => {
+        ObjectKind::Builtin { constructor, .. } => {
+            if *constructor {
+                Service::Enters(Provider::Core)
+            } else {
+                Service::Begins(Provider::Plain)
+            }
+        }
+        ObjectKind::Proxy { constructor, .. } => {
             if *constructor {
                 Service::Enters(Provider::Unwritten)
             } else {

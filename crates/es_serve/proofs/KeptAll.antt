@@ -1,6 +1,6 @@
 -- Every algorithm keeps worlds sound.
 use Rattle.std.proofs.Common.{◌≡◌, ◌≤◌, ℕ, true, Option, Some, None, List, length, refl, sym, subst, arith}
-use Rattle.std.specs.Prelude.{codes}
+use Rattle.std.specs.Prelude.{codes, nat_eq}
 use Rattle.property_keys.specs.declared.identifiers.ObjectId.{ObjectId}
 use Rattle.property_keys.specs.declared.keys.PropKey.{PropKey}
 use Rattle.property_keys.specs.declared.values.Value.{Value}
@@ -31,14 +31,16 @@ use Rattle.es_model.proofs.SoundErrors.{kept-if, error-kept}
 use Rattle.ordinary_object.specs.Ordinary.{ordinary_program}
 use Rattle.ordinary_object.specs.Serving.{is_ordinary}
 use Rattle.ordinary_object.proofs.Kept.{ordinary_kept}
-use Rattle.plain_builtins.specs.Plain.{row_program}
+use Rattle.core_builtins.specs.Core.{row_called, row_constructed}
+use Rattle.core_builtins.proofs.KeptCore.{row_called-kept, row_constructed-kept}
+use Rattle.plain_builtins.specs.Plain.{print_row, row_program}
 use Rattle.plain_builtins.proofs.KeptPlain.{row-kept, work-kept}
 use Rattle.evaluator.specs.Functions as functions
 use Rattle.evaluator.proofs.FunctionsKept.{FitsAs, call_fits, call_program_kept, construct_fits, construct_program_kept}
 use Rattle.evaluator.proofs.TasksKept.{node-kept, statements-kept, round-kept}
 use Rattle.evaluator.proofs.WordsKept.{later-charged, object-stays, value-stays, values-stay}
 use Rattle.es_serve.specs.Lines.{line_bytes}
-use Rattle.es_serve.specs.Serve.{method_of, method_program, is_counted, noting, call_of, call_program, construct_of, request_program, program_of}
+use Rattle.es_serve.specs.Serve.{method_of, method_program, is_counted, noting, builtin_called, call_of, call_program, construct_of, request_program, program_of}
 
 -- what is entered goes on after a turn, and below it is the test of the nested calls
 entered-kept : (q : Request) (w : World) (body : Program) → IsSound w → ((v : World) → IsSound v → IsLater w v → IsKept (FitsTask (Of q)) body v) → IsKept (FitsTask (Of q)) (entering body) w
@@ -74,8 +76,19 @@ noting-kept q w (Some site) way o k r p s f =
     (f (changed (Accessing site way o k) w) (sound-accessing w site way o k s) (grows-changed (Accessing site way o k) w)) (f w s (grows_none w.lists))
 
 -- a built-in function is entered
-row_entered-kept : (g this : Value) (arguments : List Value) (row : ℕ) (w : World) → IsSound w → AreKnown w.lists arguments → IsKept (FitsTask (Of (Call g this arguments))) (entering (row_program row arguments)) w
-row_entered-kept g this arguments row w s known = entered-kept (Call g this arguments) w (row_program row arguments) s (λ v sv l. row-kept g this arguments row v sv (values-stay w v l arguments known))
+row_entered-kept : (g this : Value) (arguments : List Value) (row : ℕ) (f : ObjectId) (w : World) → IsSound w → IsObject w.lists f → IsKnown w.lists this → AreKnown w.lists arguments →
+    IsKept (FitsTask (Of (Call g this arguments))) (entering (builtin_called row f this arguments)) w
+row_entered-kept g this arguments row f w s there receiver known =
+    entered-kept (Call g this arguments) w (builtin_called row f this arguments) s (λ v sv l.
+    kept-if (FitsTask (Of (Call g this arguments))) v (nat_eq row print_row) (row_program row arguments) (row_called row f this arguments)
+    (row-kept g this arguments row v sv (values-stay w v l arguments known))
+    (row_called-kept g this arguments row f v sv (object-stays w v l f there) (value-stays w v l this receiver) (values-stay w v l arguments known)))
+
+constructed-kept : (f : ObjectId) (arguments : List Value) (target : ObjectId) (row : ℕ) (w : World) → IsSound w → AreKnown w.lists arguments → IsObject w.lists target →
+    IsKept (FitsTask (Of (Construct f arguments target))) (entering (row_constructed row arguments target)) w
+constructed-kept f arguments target row w s known there =
+    entered-kept (Construct f arguments target) w (row_constructed row arguments target) s (λ v sv l.
+    row_constructed-kept f arguments target row v sv (values-stay w v l arguments known) (object-stays w v l target there))
 
 -- the cells of the top scope stay
 top-stays : (script : Tree) (w v : World) → IsLater w v → top_names script ≤ length w.lists.cells → top_names script ≤ length v.lists.cells
@@ -93,7 +106,7 @@ call_of-kept : (g : Value) (w : World) (k : ObjectKind) (f : ObjectId) (this : V
 call_of-kept g w kind_of.Ordinary f this arguments s right there this-known known = no_function-kept (Call g this arguments) w s
 call_of-kept g w (kind_of.Function function constructor strict) f this arguments s right there this-known known =
     function_entered-kept g w function f this arguments s right.1 there this-known known
-call_of-kept g w (kind_of.Builtin row constructor proxy) f this arguments s right there this-known known = row_entered-kept g this arguments row w s known
+call_of-kept g w (kind_of.Builtin row constructor proxy) f this arguments s right there this-known known = row_entered-kept g this arguments row f w s there this-known known
 call_of-kept g w kind_of.Array f this arguments s right there this-known known = no_function-kept (Call g this arguments) w s
 call_of-kept g w (kind_of.Text t) f this arguments s right there this-known known = no_function-kept (Call g this arguments) w s
 call_of-kept g w (kind_of.Wrapper v) f this arguments s right there this-known known = no_function-kept (Call g this arguments) w s
@@ -117,18 +130,19 @@ constructor_entered-kept q w function f arguments target fits s top there known 
     entered-kept q w (functions.construct_program w.script function f arguments target) s (λ v sv l.
     construct_program_kept (Of q) w.script v function f arguments target fits l.script sv (top-stays w.script w v l top) (object-stays w v l f there) (values-stay w v l arguments known) (object-stays w v l target new))
 
-construct_of-kept : (q : Request) (w : World) (k : ObjectKind) (f : ObjectId) (arguments : List Value) (target : ObjectId) → FitsAs (Of q) true → IsSound w → IsRightKind w.script w.lists f k → IsObject w.lists f →
-    AreKnown w.lists arguments → IsObject w.lists target → IsKept (FitsTask (Of q)) (construct_of w.script k f arguments target) w
-construct_of-kept q w kind_of.Ordinary f arguments target fits s right there known new = no_constructor-kept q w s
-construct_of-kept q w (kind_of.Function function constructor strict) f arguments target fits s right there known new =
-    kept-if (FitsTask (Of q)) w constructor _ _ (constructor_entered-kept q w function f arguments target fits s right.1 there known new) (no_constructor-kept q w s)
-construct_of-kept q w (kind_of.Builtin row constructor proxy) f arguments target fits s right there known new = kept-if (FitsTask (Of q)) w constructor _ _ (entering-kept q w s) (no_constructor-kept q w s)
-construct_of-kept q w kind_of.Array f arguments target fits s right there known new = no_constructor-kept q w s
-construct_of-kept q w (kind_of.Text t) f arguments target fits s right there known new = no_constructor-kept q w s
-construct_of-kept q w (kind_of.Wrapper v) f arguments target fits s right there known new = no_constructor-kept q w s
-construct_of-kept q w (kind_of.Arguments cells) f arguments target fits s right there known new = no_constructor-kept q w s
-construct_of-kept q w kind_of.Error f arguments target fits s right there known new = no_constructor-kept q w s
-construct_of-kept q w (kind_of.Proxy t handler callable constructor) f arguments target fits s right there known new = kept-if (FitsTask (Of q)) w constructor _ _ (entering-kept q w s) (no_constructor-kept q w s)
+construct_of-kept : (w : World) (k : ObjectKind) (f : ObjectId) (arguments : List Value) (target : ObjectId) → IsSound w → IsRightKind w.script w.lists f k → IsObject w.lists f →
+    AreKnown w.lists arguments → IsObject w.lists target → IsKept (FitsTask (Of (Construct f arguments target))) (construct_of w.script k f arguments target) w
+construct_of-kept w kind_of.Ordinary f arguments target s right there known new = no_constructor-kept (Construct f arguments target) w s
+construct_of-kept w (kind_of.Function function constructor strict) f arguments target s right there known new =
+    kept-if (FitsTask (Of (Construct f arguments target))) w constructor _ _ (constructor_entered-kept q w function f arguments target s right.1 there known new) (no_constructor-kept (Construct f arguments target) w s)
+construct_of-kept w (kind_of.Builtin row constructor proxy) f arguments target s right there known new =
+    kept-if (FitsTask (Of (Construct f arguments target))) w constructor _ _ (constructed-kept f arguments target row w s known new) (no_constructor-kept (Construct f arguments target) w s)
+construct_of-kept w kind_of.Array f arguments target s right there known new = no_constructor-kept (Construct f arguments target) w s
+construct_of-kept w (kind_of.Text t) f arguments target s right there known new = no_constructor-kept (Construct f arguments target) w s
+construct_of-kept w (kind_of.Wrapper v) f arguments target s right there known new = no_constructor-kept (Construct f arguments target) w s
+construct_of-kept w (kind_of.Arguments cells) f arguments target s right there known new = no_constructor-kept (Construct f arguments target) w s
+construct_of-kept w kind_of.Error f arguments target s right there known new = no_constructor-kept (Construct f arguments target) w s
+construct_of-kept w (kind_of.Proxy t handler callable constructor) f arguments target s right there known new = kept-if (FitsTask (Of (Construct f arguments target))) w constructor _ _ (entering-kept (Construct f arguments target) w s) (no_constructor-kept (Construct f arguments target) w s)
 
 -- ---- every request
 
@@ -159,7 +173,7 @@ request-kept (Extensible o) w s h = object-kept (Extensible o) w o s h refl
 request-kept (Prevent o) w s h = object-kept (Prevent o) w o s h refl
 request-kept (Call f this arguments) w s h = call-kept w f this arguments s h.0 h.1 h.2
 request-kept (Construct f arguments target) w s h =
-    construct_of-kept (Construct f arguments target) w (kind w.lists f) f arguments target (construct_fits f arguments target) s (s.kinds f h.0) h.0 h.1 h.2
+    construct_of-kept w (kind w.lists f) f arguments target s (s.kinds f h.0) h.0 h.1 h.2
 request-kept (Work operation operands) w s h = work-kept operation operands w s h.1
 request-kept (Print line) w s h = (sound-printed w (line_bytes w.lists line) s, (tt, tt))
 

@@ -1,4 +1,5 @@
 -- Every task's program keeps within its weight.
+use Rattle.std.specs.Prelude.{nat_eq}
 use Rattle.std.proofs.Common.{ℕ, ◌+◌, ◌*◌, ◌≤◌, Option, Some, None, List, sym, true≢false, arith}
 use Rattle.property_keys.specs.declared.identifiers.ObjectId.{ObjectId}
 use Rattle.property_keys.specs.declared.keys.PropKey.{PropKey}
@@ -20,12 +21,14 @@ use Rattle.es_model.specs.Weights.{request_weight, renewed, IsWithin}
 use Rattle.es_model.specs.programs.Errors.{entering, unwritten, not_a_function, not_a_constructor}
 use Rattle.es_model.proofs.Within.{within-cond, renewed-enough}
 use Rattle.ordinary_object.proofs.OrdinaryWithin.{ordinary-within}
-use Rattle.plain_builtins.specs.Plain.{row_program}
+use Rattle.core_builtins.specs.Core.{row_called, row_constructed}
+use Rattle.core_builtins.proofs.CoreWithin.{row_called-within, row_constructed-within}
+use Rattle.plain_builtins.specs.Plain.{print_row, row_program}
 use Rattle.plain_builtins.proofs.PlainWithin.{row-within, work-within}
 use Rattle.evaluator.specs.Functions as functions
 use Rattle.evaluator.proofs.FunctionsWithin.{call_program-within, construct_program-within}
 use Rattle.evaluator.proofs.TasksWithin.{node-within, statements-within, round-within}
-use Rattle.es_serve.specs.Serve.{method_of, is_counted, noting, call_of, call_program, construct_of, request_program, program_of}
+use Rattle.es_serve.specs.Serve.{method_of, is_counted, noting, builtin_called, call_of, call_program, construct_of, request_program, program_of}
 
 -- an error that is thrown asks for nothing, and what is entered is not written yet
 no_function-within : (r b : ℕ) → IsWithin r b not_a_function
@@ -57,14 +60,19 @@ noting-within r b None way o k v p h = h
 noting-within r b (Some site) way o k v p h = λ l. within-cond r b (is_counted (kind l o) o k v) (change (Accessing site way o k) p) p h h
 
 -- a built-in function is entered
-row_entered-within : (r b : ℕ) → 200 ≤ r → (row : ℕ) (arguments : List Value) → IsWithin r b (entering (row_program row arguments))
-row_entered-within r b enough row arguments = entered-within r b (row_program row arguments) (row-within r enough row arguments)
+row_entered-within : (r b : ℕ) → 200 ≤ r → (row : ℕ) (f : ObjectId) (this : Value) (arguments : List Value) → IsWithin r b (entering (builtin_called row f this arguments))
+row_entered-within r b enough row f this arguments =
+    entered-within r b (builtin_called row f this arguments)
+    (within-cond r r (nat_eq row print_row) (row_program row arguments) (row_called row f this arguments) (row-within r enough row arguments) (row_called-within r enough row f this arguments))
+
+constructed-within : (r b : ℕ) → 200 ≤ r → (row : ℕ) (arguments : List Value) (target : ObjectId) → IsWithin r b (entering (row_constructed row arguments target))
+constructed-within r b enough row arguments target = entered-within r b (row_constructed row arguments target) (row_constructed-within r enough row arguments target)
 
 call_of-within : (r : ℕ) → 200 ≤ r → (script : Tree) (k : ObjectKind) (f : ObjectId) (this : Value) (arguments : List Value) → IsWithin r 0 (call_of script k f this arguments)
 call_of-within r enough script kind_of.Ordinary f this arguments = no_function-within r 0
 call_of-within r enough script (kind_of.Function function constructor strict) f this arguments =
     entered-within r 0 (functions.call_program script function f this arguments) (call_program-within r r script function f this arguments (omega arith) (omega arith))
-call_of-within r enough script (kind_of.Builtin row constructor proxy) f this arguments = row_entered-within r 0 enough row arguments
+call_of-within r enough script (kind_of.Builtin row constructor proxy) f this arguments = row_entered-within r 0 enough row f this arguments
 call_of-within r enough script kind_of.Array f this arguments = no_function-within r 0
 call_of-within r enough script (kind_of.Text t) f this arguments = no_function-within r 0
 call_of-within r enough script (kind_of.Wrapper v) f this arguments = no_function-within r 0
@@ -88,7 +96,7 @@ construct_of-within r enough script (kind_of.Function function constructor stric
     within-cond r 0 constructor (entering (functions.construct_program script function f arguments target)) not_a_constructor
     (entered-within r 0 (functions.construct_program script function f arguments target) (construct_program-within r r script function f arguments target (omega arith) (omega arith))) (no_constructor-within r 0)
 construct_of-within r enough script (kind_of.Builtin row constructor proxy) f arguments target =
-    within-cond r 0 constructor (entering unwritten) not_a_constructor (entering-within r 0) (no_constructor-within r 0)
+    within-cond r 0 constructor (entering (row_constructed row arguments target)) not_a_constructor (constructed-within r 0 enough row arguments target) (no_constructor-within r 0)
 construct_of-within r enough script kind_of.Array f arguments target = no_constructor-within r 0
 construct_of-within r enough script (kind_of.Text t) f arguments target = no_constructor-within r 0
 construct_of-within r enough script (kind_of.Wrapper v) f arguments target = no_constructor-within r 0

@@ -1,5 +1,5 @@
 -- Serve: which program each task has, and what it comes to. The cases that are not written yet throw undefined, after their entering where they have one.
-use Rattle.std.specs.Prelude.{Bool, false, if◌then◌else◌, Option, Some, None, List}
+use Rattle.std.specs.Prelude.{ℕ, Bool, false, nat_eq, if◌then◌else◌, Option, Some, None, List}
 use Rattle.property_keys.specs.declared.identifiers.ObjectId.{ObjectId}
 use Rattle.property_keys.specs.declared.keys.PropKey.{PropKey}
 use Rattle.property_keys.specs.declared.keys.PropKey.TheVariants.{Index, Name, Sym}
@@ -20,6 +20,7 @@ use Rattle.es_model.specs.Program.{Program, look, change, Task, Of, Evaluating, 
 use Rattle.es_model.specs.Servers.{model_by}
 use Rattle.es_model.specs.programs.Errors.{entering, unwritten, not_a_function, not_a_constructor}
 use Rattle.ordinary_object.specs.Ordinary.{ordinary_program}
+use Rattle.core_builtins.specs.Core as core
 use Rattle.plain_builtins.specs.Plain as plain
 use Rattle.evaluator.specs.Functions as functions
 use Rattle.evaluator.specs.Tasks as evaluator
@@ -55,9 +56,13 @@ noting (Some site) way o k receiver p = look (λ l. if is_counted (kind l o) o k
 
 -- ---- Call (10.2.1, 10.3.1, 10.5.12) and Construct (10.2.2, 10.3.2, 10.5.13): what has the method is entered
 
+-- a built-in function, by its row
+abbrev pub builtin_called : ℕ → ObjectId → Value → List Value → Program
+builtin_called row f this arguments = if nat_eq row plain.print_row then plain.row_program row arguments else core.row_called row f this arguments
+
 abbrev pub call_of : Tree → ObjectKind → ObjectId → Value → List Value → Program
 call_of script (kind_of.Function function constructor strict) f this arguments = entering (functions.call_program script function f this arguments)
-call_of script (kind_of.Builtin row constructor proxy) f this arguments = entering (plain.row_program row arguments)
+call_of script (kind_of.Builtin row constructor proxy) f this arguments = entering (builtin_called row f this arguments)
 call_of script (kind_of.Proxy target handler callable constructor) f this arguments = if callable then entering unwritten else not_a_function
 call_of script other f this arguments = not_a_function
 
@@ -68,7 +73,7 @@ call_program script other this arguments = not_a_function
 abbrev pub construct_of : Tree → ObjectKind → ObjectId → List Value → ObjectId → Program
 construct_of script (kind_of.Function function constructor strict) f arguments target =
     if constructor then entering (functions.construct_program script function f arguments target) else not_a_constructor
-construct_of script (kind_of.Builtin row constructor proxy) f arguments target = if constructor then entering unwritten else not_a_constructor
+construct_of script (kind_of.Builtin row constructor proxy) f arguments target = if constructor then entering (core.row_constructed row arguments target) else not_a_constructor
 construct_of script (kind_of.Proxy target handler callable constructor) f arguments new_target = if constructor then entering unwritten else not_a_constructor
 construct_of script other f arguments target = not_a_constructor
 

@@ -1,3 +1,4 @@
+pub mod Builtins
 pub mod Conversations
 pub mod Evaluations
 pub mod Requests

@@ -1,12 +1,17 @@
 //! Worked examples of the model. Each function here only names what requests come to in small worlds.
 #![tactic(auto)]
 
+mod builtins;
 mod conversations;
 mod evaluations;
 mod requests;
 
 ghost use Rattle.small_worlds.specs.SmallWorlds.{CallEnters, CallHalts, CallOfObject, CallOfProxy, CallOfUndefined, CallTooDeep, ConstructOfFunction, CycleHalts, CycleRefused, CycleThroughProxy, DefineAdds, DefineAddsEmpty, DefineGetter, DefineGetterOverFixed, DefineHides, DefineKeeps, DefineKeepsFixed, DefineNoGetter, DefineNothing, DefineOnClosed, DefineOverFixed, DefineOverGetter, DefineShowsFixed, DeleteAbsent, DeleteFixed, DeleteOpen, GetCallsGetter, GetGoesUp, GetHaltsAtGetter, GetHandsReceiver, GetOfNothing, GetWithoutGetter, GetterHasReceiver, HasEntersProxy, HasGoesUp, HasHalts, HasNot, ImmutableRefused, ImmutableSame, IndexIsPut, IndexIsRemoved, IsClosed, IsOpen, KeysInOrder, NoKey, NoReceiver, NullIsSet, OtherOnClosed, PlainIsNoProxy, PreventAgain, PreventCloses, ProxyBelongs, ReadForOther, ReadIsNoted, ReadOfIndex, SameOnClosed, SameOnOpen, SelfRefused, SetAdds, SetBelongs, SetCallsSetter, SetHandsReceiver, SetOnClosed, SetOnNoObject, SetOverFunctions, SetOverReadOnly, SetReadOnly, SetReplaces, SetWithoutSetter, SetterHasValue, SetterReturns, WholeChainIsSet, WriteIsNoted};
 
+pub use builtins::{
+    errors_are_made, functions_are_called, numbers_are_written, symbols_are_made,
+    truth_values_are_given,
+};
 pub use conversations::{
     descriptors_are_read, instances_are_found, keys_are_made, lines_are_asked_for, lists_are_made,
     numbers_are_read, objects_are_wrapped, primitives_are_converted, texts_are_made,

@@ -333,7 +333,7 @@ enum Step {
 }
 
 /// How many start objects there are: the first object of the steps has this number.
-const START_OBJECTS: u32 = 29;
+const START_OBJECTS: u32 = 41;
 
 /// The function at line 4 constructs twice, with that at line 2 between. The event of each names the same origin, and makes no object.
 static STEPS: [Step; 9] = [

@@ -20,10 +20,10 @@ static RUNNING: &[Script] = &[
         file: "let o={b:1,a:\"x\"}; o.c=o.b+2; delete o.b; print(o.b, o.a+o.c, typeof o, \"a\" in o, 2<10, \"2\"<\"10\");",
         out: "undefined x3 object true true false\n",
     },
-    // no constructor is built, so none has a name
+    // a constructor that is not built has no name
     Script {
         file: "print(typeof Object, typeof Symbol, typeof Proxy, 'x'.constructor, {}.constructor);",
-        out: "undefined undefined undefined undefined undefined\n",
+        out: "undefined function undefined undefined undefined\n",
     },
     // one object, in many layouts
     Script {

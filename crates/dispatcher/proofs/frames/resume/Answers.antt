@@ -1,5 +1,6 @@
 use Rattle.es_model.specs.Completions.{answered}
 use Rattle.es_model.specs.Program.{run}
+use Rattle.core_builtins.specs.Rests as core
 use Rattle.evaluator.specs.Machine.{eval_rest}
 use Rattle.object_heap.proofs.Turns.{stops_turn_of}
 use Rattle.ordinary_object.specs.Rests as ordinary
@@ -18,6 +19,12 @@ returns-in-Plain g c = λ S n w is same h.
     rw c.in-Plain.is
     (c.of_plain.ensures c.args.script.now c.args.heap.now c.resume-in-Plain.new.heap w S n (run S (plain.program_after c.in-Plain.frame (answered c.args.answer)) n w)
     (stops_turn_of plain.program_after (plain.program_after c.in-Plain.frame (answered c.args.answer)) c.args.heap.now c.resume-in-Plain.new.heap w c.resume-in-Plain.result (c.resume-in-Plain.ensures.stops w h) S n))
+
+pub returns-in-Core : goal.returns-in-Core
+returns-in-Core g c = λ S n w is same h.
+    rw c.in-Core.is
+    (c.of_core.ensures c.args.script.now c.args.heap.now c.resume-in-Core.new.heap w S n (run S (core.program_after c.in-Core.frame (answered c.args.answer)) n w)
+    (stops_turn_of core.program_after (core.program_after c.in-Core.frame (answered c.args.answer)) c.args.heap.now c.resume-in-Core.new.heap w c.resume-in-Core.result (c.resume-in-Core.ensures.stops w h) S n))
 
 pub returns-in-Running : goal.returns-in-Running
 returns-in-Running g c = λ S n w is same h.

@@ -243,10 +243,7 @@ pub(crate) static ORDINARY: [Row; 8] = [
         Seen::Flag(false),
     ),
     Row(
-        Step::Start(Question::One(
-            Operation::OrdinaryHasInstance,
-            Value::Object(OBJECT),
-        )),
+        Step::Start(Question::One(Operation::OrdinaryHasInstance, Value::Object(OBJECT))),
         Seen::Thrown(Value::Undefined),
     ),
     Row(Step::Left, Seen::Turns(9)),
