@@ -73,7 +73,8 @@ call_program script other this arguments = not_a_function
 abbrev pub construct_of : Tree → ObjectKind → ObjectId → List Value → ObjectId → Program
 construct_of script (kind_of.Function function constructor strict) f arguments target =
     if constructor then entering (functions.construct_program script function f arguments target) else not_a_constructor
-construct_of script (kind_of.Builtin row constructor proxy) f arguments target = if constructor then entering (core.row_constructed row arguments target) else not_a_constructor
+construct_of script (kind_of.Builtin row constructor proxy) f arguments target =
+    if constructor then entering (core.row_constructed row arguments target) else not_a_constructor
 construct_of script (kind_of.Proxy target handler callable constructor) f arguments new_target = if constructor then entering unwritten else not_a_constructor
 construct_of script other f arguments target = not_a_constructor
 

@@ -266,11 +266,13 @@ Defines here old new w whole rest (Ok (Some plan)) = Plans here here old new w (
 Defines here old new w whole rest (Ok None) = (v : World) × Goes old new w v × (stage_of whole w ≡ stage_of rest v)
 Defines here old new w whole rest (Err stop) = Plans here here old new w (stage_of whole w) (Err stop)
 
-abbrev pub DefinesIn : Context → HeapView → HeapView → (Context → Program → Program) → (Context → Program) → Result (Option Plan) Stop → Type 0
+abbrev pub DefinesIn :
+    Context → HeapView → HeapView → (Context → Program → Program) → (Context → Program) → Result (Option Plan) Stop → Type 0
 DefinesIn here old new p rest result = (w : World) → StandsFor old w → Defines here old new w (p here (rest here)) (rest here) result
 
 abbrev pub DefinesAt :
-    Tree → Running → List CellNo → HeapView → HeapView → (Context → Program → Program) → (Context → Program) → Result (Option Plan) Stop → Type 0
+    Tree → Running → List CellNo → HeapView → HeapView → (Context → Program → Program) → (Context → Program)
+    → Result (Option Plan) Stop → Type 0
 DefinesAt script body cells old new p rest result = DefinesIn (context script body cells) old new p rest result
 
 -- the property definition that has this number, of the node with that one, stands before those from the next number on

@@ -43,4 +43,6 @@ earliest found (p ∷ ps) = earliest (earlier found p) ps
 
 -- the least place of what does not run yet: the `[` of an array literal, or the first token of a function whose code uses `arguments`
 abbrev pub unbuilt : Tree → Option Place
-unbuilt tree = earliest (earliest None (places_where is_array tree.nodes tree.places)) (places_where uses_arguments tree.bodies (function_places tree.functions))
+unbuilt tree =
+    earliest (earliest None (places_where is_array tree.nodes tree.places))
+    (places_where uses_arguments tree.bodies (function_places tree.functions))

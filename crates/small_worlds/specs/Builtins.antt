@@ -41,8 +41,8 @@ symbol n = value.Symbol (record { 0 = n })
 
 abbrev pub words : List (List ℕ)
 words =
-    [] ∷ codes "a" ∷ codes "Error" ∷ codes "x" ∷ codes "message" ∷ codes "cause" ∷ codes "prototype" ∷ codes "name" ∷ codes "true" ∷ codes "false"
-    ∷ codes "ff" ∷ codes "Symbol()" ∷ codes "Symbol(a)" ∷ codes "-z" ∷ codes "101" ∷ codes "-10" ∷ codes "a: x" ∷ codes "0" ∷ []
+    [] ∷ codes "a" ∷ codes "Error" ∷ codes "x" ∷ codes "message" ∷ codes "cause" ∷ codes "prototype" ∷ codes "name" ∷ codes "true"
+    ∷ codes "false" ∷ codes "ff" ∷ codes "Symbol()" ∷ codes "Symbol(a)" ∷ codes "-z" ∷ codes "101" ∷ codes "-10" ∷ codes "a: x" ∷ codes "0" ∷ []
 
 abbrev pub a_thing : ObjectKind → Object
 a_thing k = record { kind = k; proto = None; extensible = true; properties = [] }
@@ -227,7 +227,9 @@ last_description (Ended c w n) = description_text w.lists (description w.lists (
 last_description (Halt w n) = None
 
 abbrev pub SymbolWithoutDescription : Type 0
-SymbolWithoutDescription = (seen (of_call silent mute class.Symbol []) ≡ (gives (symbol 2), 0)) × (last_description (of_call silent mute class.Symbol []) ≡ None)
+SymbolWithoutDescription =
+    (seen (of_call silent mute class.Symbol []) ≡ (gives (symbol 2), 0))
+    × (last_description (of_call silent mute class.Symbol []) ≡ None)
 
 abbrev pub SymbolOfUndefined : Type 0
 SymbolOfUndefined = last_description (of_call silent mute class.Symbol (value.Undefined ∷ [])) ≡ None
@@ -286,10 +288,14 @@ ErrorOfItsClass =
     ≡ (kind_of.Error, (OfError, Some (object_of (intrinsic.Prototype (class.Error error.RangeError)))) ∷ [], [])
 
 abbrev pub ErrorWithMessage : Type 0
-ErrorWithMessage = made (of_construction sixth true mute (class.Error error.Error) (word 1 ∷ [])) ≡ (kind_of.Error, (OfError, Some (at 6)) ∷ [], hidden 4 (word 1) ∷ [])
+ErrorWithMessage =
+    made (of_construction sixth true mute (class.Error error.Error) (word 1 ∷ []))
+    ≡ (kind_of.Error, (OfError, Some (at 6)) ∷ [], hidden 4 (word 1) ∷ [])
 
 abbrev pub MessageIsConverted : Type 0
-MessageIsConverted = made (of_construction sixth true converts (class.Error error.Error) (object 0 ∷ [])) ≡ (kind_of.Error, (OfError, Some (at 6)) ∷ [], hidden 4 (word 3) ∷ [])
+MessageIsConverted =
+    made (of_construction sixth true converts (class.Error error.Error) (object 0 ∷ []))
+    ≡ (kind_of.Error, (OfError, Some (at 6)) ∷ [], hidden 4 (word 3) ∷ [])
 
 abbrev pub MessageThrows : Type 0
 MessageThrows = seen (of_construction sixth true mute (class.Error error.Error) (object 0 ∷ [])) ≡ (Throw (word 3), 2)
@@ -302,7 +308,9 @@ CauseIsUndefined =
     ≡ (kind_of.Error, (OfError, Some (at 6)) ∷ [], hidden 4 (word 1) ∷ hidden 5 value.Undefined ∷ []))
 
 abbrev pub CauseIsNotThere : Type 0
-CauseIsNotThere = made (of_construction sixth false mute (class.Error error.Error) (value.Undefined ∷ object 0 ∷ [])) ≡ (kind_of.Error, (OfError, Some (at 6)) ∷ [], [])
+CauseIsNotThere =
+    made (of_construction sixth false mute (class.Error error.Error) (value.Undefined ∷ object 0 ∷ []))
+    ≡ (kind_of.Error, (OfError, Some (at 6)) ∷ [], [])
 
 abbrev pub OptionsAreNoObject : Type 0
 OptionsAreNoObject = seen (of_construction sixth true mute (class.Error error.Error) (value.Undefined ∷ word 5 ∷ [])) ≡ (gives (object 7), 1)

@@ -127,7 +127,7 @@ GetGoesUp = answers (Read (at 3) (text 0) (object 3) None) (chain_with 5) (gives
 abbrev pub GetOfNothing : Type 0
 GetOfNothing = answers (Read (at 3) (text 9) (object 3) None) (chain_with 5) (gives value.Undefined) (chain_with 3) 2
 
--- Twice step 2.c, then step 7: the Call, for a request and the turn of its entering. No function body is written yet: it throws undefined.
+-- Twice step 2.c, then step 7: the Call, for a request and the turn of its entering. In these small worlds an entered function throws undefined.
 abbrev pub GetCallsGetter : Type 0
 GetCallsGetter = answers (Read (at 3) (text 1) (object 3) None) (chain_with 5) (Throw value.Undefined) (chain_with 2) 3
 
@@ -531,7 +531,7 @@ ConstructOfFunction =
     answers (Construct (at 1) [] (at 1)) (callers []) (Throw (object 2))
     (thrown_of 18 0 1 (codes "not a constructor" ∷ codes "message" ∷ [])) 0
 
--- A function is entered for a turn. No function body is written yet: it throws undefined.
+-- A function is entered for a turn. In these small worlds it throws undefined.
 abbrev pub CallEnters : Type 0
 CallEnters =
     answers (Call (object 1) value.Undefined []) (callers []) (Throw value.Undefined)
