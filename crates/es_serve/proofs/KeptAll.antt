@@ -134,7 +134,7 @@ construct_of-kept : (w : World) (k : ObjectKind) (f : ObjectId) (arguments : Lis
     AreKnown w.lists arguments → IsObject w.lists target → IsKept (FitsTask (Of (Construct f arguments target))) (construct_of w.script k f arguments target) w
 construct_of-kept w kind_of.Ordinary f arguments target s right there known new = no_constructor-kept (Construct f arguments target) w s
 construct_of-kept w (kind_of.Function function constructor strict) f arguments target s right there known new =
-    kept-if (FitsTask (Of (Construct f arguments target))) w constructor _ _ (constructor_entered-kept q w function f arguments target s right.1 there known new) (no_constructor-kept (Construct f arguments target) w s)
+    kept-if (FitsTask (Of (Construct f arguments target))) w constructor _ _ (constructor_entered-kept (Construct f arguments target) w function f arguments target (construct_fits f arguments target) s right.1 there known new) (no_constructor-kept (Construct f arguments target) w s)
 construct_of-kept w (kind_of.Builtin row constructor proxy) f arguments target s right there known new =
     kept-if (FitsTask (Of (Construct f arguments target))) w constructor _ _ (constructed-kept f arguments target row w s known new) (no_constructor-kept (Construct f arguments target) w s)
 construct_of-kept w kind_of.Array f arguments target s right there known new = no_constructor-kept (Construct f arguments target) w s
