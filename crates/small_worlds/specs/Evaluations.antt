@@ -26,6 +26,7 @@ use Rattle.es_tree.specs.declared.node.Node.TheVariants as node
 use Rattle.es_tree.specs.declared.numbers.NodeId.{NodeId}
 use Rattle.es_tree.specs.declared.primaries.Key.TheVariants as key
 use Rattle.es_tree.specs.declared.primaries.Primary.TheVariants as primary
+use Rattle.es_tree.specs.declared.primaries.Property.{Property}
 use Rattle.es_tree.specs.declared.primaries.Property.TheVariants as property
 use Rattle.es_tree.specs.declared.statements.Block.{Block}
 use Rattle.es_tree.specs.declared.statements.Statement.TheVariants as statement
@@ -42,6 +43,7 @@ use Rattle.es_model.specs.declared.requests.Request.TheVariants.{Has, Read, Writ
 use Rattle.es_model.specs.declared.running.Running.{Running}
 use Rattle.es_model.specs.Completions.{Completion, Normal, Break, Return, Throw}
 use Rattle.es_model.specs.StartObjects.{object_of}
+use Rattle.es_model.specs.Objects.{object_at}
 use Rattle.es_model.specs.World.{World}
 use Rattle.es_model.specs.Changes.{printed_more}
 use Rattle.es_model.specs.Program.{Outcome, Ended, Halt, Server, Of, Evaluating, Statements, Round, done, run}
@@ -657,7 +659,33 @@ a_literal = with_leaves (
 abbrev pub LiteralIsMade : Type 0
 LiteralIsMade = sees (comes usual a_literal 8) ≡ (gives (object 0), 17, 13 ∷ 5 ∷ [], 3)
 
+-- { a: 1, b: o.k, c: 2 }, where the read throws: one property is defined, and the literal is never given
+abbrev pub throwing : Answers
+throwing marks (Read o k receiver site) = Throw (whole 9)
+throwing marks q = usual marks q
+
+abbrev pub fixed : List ℕ → ℕ → Property
+fixed units v = property.Value (key.Fixed units) (the v)
+
+abbrev pub broken_literal : List Node
+broken_literal = with_leaves (
+    member 0 (codes "k")
+    ∷ node.Primary (primary.Object (record { 0 = 0 }) (fixed (codes "a") 2 ∷ fixed (codes "b") 8 ∷ fixed (codes "c") 3 ∷ [])) ∷ [])
+
+-- how an evaluation ends, and how many properties object 0 has
+abbrev pub properties_of_first : Outcome → Completion × ℕ
+properties_of_first (Ended c w count) = (c, length (object_at w.lists.objects (at 0)).properties)
+properties_of_first (Halt w count) = (Break, 0)
+
+abbrev pub LiteralIsLeft : Type 0
+LiteralIsLeft = properties_of_first (comes throwing broken_literal 9) ≡ (Throw (whole 9), 1)
+
 -- ---- statements
+
+-- how an evaluation ends, and the turns that are left
+abbrev pub ends : Outcome → Completion × ℕ
+ends (Ended c w count) = (c, w.turns)
+ends (Halt w count) = (Break, w.turns)
 
 -- { let k = n; }
 abbrev pub a_block : List Node
@@ -723,6 +751,35 @@ no_finally = with_leaves (
 
 abbrev pub FinallyKeepsEnd : Type 0
 FinallyKeepsEnd = comes usual no_finally 9 ≡ Ended (Throw (whole 1)) (scene no_finally 17 cells []) 4
+
+-- try { return 1; } finally { n; }
+abbrev pub a_kept_return : List Node
+a_kept_return = with_leaves (
+    node.Statement (statement.Return (Some (the 2))) ∷ node.Statement (statement.Expression (the 1))
+    ∷ node.Statement (statement.Try (block_of 0 (the 8 ∷ [])) None (Some (block_of 0 (the 9 ∷ [])))) ∷ [])
+
+abbrev pub ReturnIsKept : Type 0
+ReturnIsKept = comes usual a_kept_return 10 ≡ Ended (Return (whole 1)) (scene a_kept_return 15 cells []) 7
+
+-- while (n) { try { throw 1; } finally { break; } }
+abbrev pub a_break_in_finally : List Node
+a_break_in_finally = with_leaves (
+    node.Statement (statement.Throw (the 2)) ∷ node.Statement statement.Break
+    ∷ node.Statement (statement.Try (block_of 0 (the 8 ∷ [])) None (Some (block_of 0 (the 9 ∷ []))))
+    ∷ node.Statement (statement.Block (block_of 0 (the 10 ∷ []))) ∷ node.Statement (statement.While (the 1) (the 11)) ∷ [])
+
+abbrev pub BreakDropsThrow : Type 0
+BreakDropsThrow = ends (comes usual a_break_in_finally 12) ≡ (gives value.Undefined, 13)
+
+-- try { throw 1; } catch (k) { return n; } finally { throw 2; }
+abbrev pub three_ends : List Node
+three_ends = with_leaves (
+    node.Statement (statement.Throw (the 2)) ∷ node.Statement (statement.Return (Some (the 1))) ∷ node.Statement (statement.Throw (the 3))
+    ∷ node.Statement (statement.Try (block_of 0 (the 8 ∷ [])) (Some (record { parameter = Some inner; block = block_of 0 (the 9 ∷ []) }))
+    (Some (block_of 0 (the 10 ∷ [])))) ∷ [])
+
+abbrev pub FinallyThrowsInstead : Type 0
+FinallyThrowsInstead = ends (comes usual three_ends 11) ≡ (Throw (whole 2), 13)
 
 -- if (z) ; else n;
 abbrev pub an_if : List Node

@@ -537,6 +537,12 @@ CallEnters =
     answers (Call (object 1) value.Undefined []) (callers []) (Throw value.Undefined)
     (world (plain None [] ∷ a_function ∷ []) [] 4 []) 0
 
+-- With 1999 calls that run there is room for one more.
+abbrev pub CallIsTheLast : Type 0
+CallIsTheLast =
+    model 1999 (Of (Call (object 1) value.Undefined [])) (callers [])
+    ≡ Ended (Throw value.Undefined) (world (plain None [] ∷ a_function ∷ []) [] 4 []) 0
+
 -- As many calls run as may: the turn is taken, and a RangeError is thrown, whose prototype is object 2 + 2 * (7 + 2) = 20.
 abbrev pub CallTooDeep : Type 0
 CallTooDeep =

@@ -1,6 +1,6 @@
 //! Worked examples of evaluation.
 
-ghost use Rattle.small_worlds.specs.Evaluations.{AbsentIsPut, AbsentNameThrows, AbsentPutThrows, AndStops, AtLeastInOrder, AtMostInOrder, BreakLeavesLoop, BreakLeavesOneLoop, CellIsPut, CoalesceGoesOn, CompoundInOrder, ConstantThrows, ContinueSteps, DeadNameThrows, DeadPutThrows, DeleteRefusedThrows, ElementIsRead, ElseIsTaken, EqualIsAsked, FinallyHasItsEnd, FinallyKeepsEnd, GlobalHasNoReceiver, GlobalIsRead, GoneIsPut, GoneNameIsUndefined, GoneNameThrows, GonePutThrows, GreaterInOrder, HaltPassesFinally, HaltsAtLink, HaltsAtRight, InConvertsKey, InWantsObject, InstanceIsAsked, KeyIsConvertedFirst, LastIsGiven, LengthIsNotDeleted, LessInOrder, LiteralIsMade, MemberIsCalled, MemberIsDeleted, MemberIsRead, MemberIsUpdated, MinusConverts, NameIsRead, NewIsGiven, NoRemainderThrows, NotEqualIsAsked, NotOfNumber, NotStrictlyEqualAsksNothing, NullIsNotPut, NullIsNotRead, NumberConstructsNothing, NumberGoesUp, NumberIsDeleted, NumbersAreAdded, NumbersAreMultiplied, NumbersAreSubtracted, ObjectIsConstructed, OldIsGiven, OrStops, OtherIsTaken, PlusConverts, RefusedPasses, RefusedThrows, RightSideThrowsFirst, ScopeHasCell, StrictlyEqualAsksNothing, TextGoesUp, TextHasLength, TextHasUnits, TextsAreJoined, ThisIsGiven, ThrownIsCaught, TypeofAbsent, TypeofDeadThrows, TypeofNumber, ValueIsCalled, VoidIsUndefined};
+ghost use Rattle.small_worlds.specs.Evaluations.{AbsentIsPut, AbsentNameThrows, AbsentPutThrows, AndStops, AtLeastInOrder, AtMostInOrder, BreakDropsThrow, BreakLeavesLoop, BreakLeavesOneLoop, CellIsPut, CoalesceGoesOn, CompoundInOrder, ConstantThrows, ContinueSteps, DeadNameThrows, DeadPutThrows, DeleteRefusedThrows, ElementIsRead, ElseIsTaken, EqualIsAsked, FinallyHasItsEnd, FinallyKeepsEnd, FinallyThrowsInstead, GlobalHasNoReceiver, GlobalIsRead, GoneIsPut, GoneNameIsUndefined, GoneNameThrows, GonePutThrows, GreaterInOrder, HaltPassesFinally, HaltsAtLink, HaltsAtRight, InConvertsKey, InWantsObject, InstanceIsAsked, KeyIsConvertedFirst, LastIsGiven, LengthIsNotDeleted, LessInOrder, LiteralIsLeft, LiteralIsMade, MemberIsCalled, MemberIsDeleted, MemberIsRead, MemberIsUpdated, MinusConverts, NameIsRead, NewIsGiven, NoRemainderThrows, NotEqualIsAsked, NotOfNumber, NotStrictlyEqualAsksNothing, NullIsNotPut, NullIsNotRead, NumberConstructsNothing, NumberGoesUp, NumberIsDeleted, NumbersAreAdded, NumbersAreMultiplied, NumbersAreSubtracted, ObjectIsConstructed, OldIsGiven, OrStops, OtherIsTaken, PlusConverts, RefusedPasses, RefusedThrows, ReturnIsKept, RightSideThrowsFirst, ScopeHasCell, StrictlyEqualAsksNothing, TextGoesUp, TextHasLength, TextHasUnits, TextsAreJoined, ThisIsGiven, ThrownIsCaught, TypeofAbsent, TypeofDeadThrows, TypeofNumber, ValueIsCalled, VoidIsUndefined};
 
 /// Names: cells, the dead zone, and the two looks at the global object, in strict code and other code.
 #[tactic(auto, unfolding(es_model::specs::Changes::changed, es_model::specs::Changes::charged, es_model::specs::Changes::printed_more, es_model::specs::Changes::added, es_model::specs::Changes::made, es_model::specs::Changes::text_known, es_model::specs::Changes::cell_made, es_model::specs::Changes::cell_set, es_model::specs::World::allows, es_model::specs::World::number_of))]
@@ -93,6 +93,7 @@ pub fn calls_are_made()
 pub fn primaries_are_evaluated()
     ensures this_is_given { ThisIsGiven }
     ensures literal_is_made { LiteralIsMade }
+    ensures literal_is_left { LiteralIsLeft }
 {}
 
 /// Blocks, loops, `if` and `try`: scopes, and which ends leave what.
@@ -105,6 +106,9 @@ pub fn statements_run()
     ensures thrown_is_caught { ThrownIsCaught }
     ensures finally_has_its_end { FinallyHasItsEnd }
     ensures finally_keeps_end { FinallyKeepsEnd }
+    ensures return_is_kept { ReturnIsKept }
+    ensures break_drops_throw { BreakDropsThrow }
+    ensures finally_throws_instead { FinallyThrowsInstead }
     ensures else_is_taken { ElseIsTaken }
 {}
 

@@ -4,9 +4,11 @@
 mod builtins;
 mod conversations;
 mod evaluations;
+mod function_names;
+mod function_runs;
 mod requests;
 
-ghost use Rattle.small_worlds.specs.SmallWorlds.{CallEnters, CallHalts, CallOfObject, CallOfProxy, CallOfUndefined, CallTooDeep, ConstructOfFunction, CycleHalts, CycleRefused, CycleThroughProxy, DefineAdds, DefineAddsEmpty, DefineGetter, DefineGetterOverFixed, DefineHides, DefineKeeps, DefineKeepsFixed, DefineNoGetter, DefineNothing, DefineOnClosed, DefineOverFixed, DefineOverGetter, DefineShowsFixed, DeleteAbsent, DeleteFixed, DeleteOpen, GetCallsGetter, GetGoesUp, GetHaltsAtGetter, GetHandsReceiver, GetOfNothing, GetWithoutGetter, GetterHasReceiver, HasEntersProxy, HasGoesUp, HasHalts, HasNot, ImmutableRefused, ImmutableSame, IndexIsPut, IndexIsRemoved, IsClosed, IsOpen, KeysInOrder, NoKey, NoReceiver, NullIsSet, OtherOnClosed, PlainIsNoProxy, PreventAgain, PreventCloses, ProxyBelongs, ReadForOther, ReadIsNoted, ReadOfIndex, SameOnClosed, SameOnOpen, SelfRefused, SetAdds, SetBelongs, SetCallsSetter, SetHandsReceiver, SetOnClosed, SetOnNoObject, SetOverFunctions, SetOverReadOnly, SetReadOnly, SetReplaces, SetWithoutSetter, SetterHasValue, SetterReturns, WholeChainIsSet, WriteIsNoted};
+ghost use Rattle.small_worlds.specs.SmallWorlds.{CallEnters, CallHalts, CallIsTheLast, CallOfObject, CallOfProxy, CallOfUndefined, CallTooDeep, ConstructOfFunction, CycleHalts, CycleRefused, CycleThroughProxy, DefineAdds, DefineAddsEmpty, DefineGetter, DefineGetterOverFixed, DefineHides, DefineKeeps, DefineKeepsFixed, DefineNoGetter, DefineNothing, DefineOnClosed, DefineOverFixed, DefineOverGetter, DefineShowsFixed, DeleteAbsent, DeleteFixed, DeleteOpen, GetCallsGetter, GetGoesUp, GetHaltsAtGetter, GetHandsReceiver, GetOfNothing, GetWithoutGetter, GetterHasReceiver, HasEntersProxy, HasGoesUp, HasHalts, HasNot, ImmutableRefused, ImmutableSame, IndexIsPut, IndexIsRemoved, IsClosed, IsOpen, KeysInOrder, NoKey, NoReceiver, NullIsSet, OtherOnClosed, PlainIsNoProxy, PreventAgain, PreventCloses, ProxyBelongs, ReadForOther, ReadIsNoted, ReadOfIndex, SameOnClosed, SameOnOpen, SelfRefused, SetAdds, SetBelongs, SetCallsSetter, SetHandsReceiver, SetOnClosed, SetOnNoObject, SetOverFunctions, SetOverReadOnly, SetReadOnly, SetReplaces, SetWithoutSetter, SetterHasValue, SetterReturns, WholeChainIsSet, WriteIsNoted};
 
 pub use builtins::{
     errors_are_made, functions_are_called, numbers_are_written, symbols_are_made,
@@ -20,6 +22,10 @@ pub use conversations::{
 pub use evaluations::{
     calls_are_made, halts_are_exact, members_are_accessed, names_are_looked_up,
     operators_are_applied, primaries_are_evaluated, statements_run,
+};
+pub use function_names::{definitions_name, places_name};
+pub use function_runs::{
+    calls_run_bodies, constructors_run, declared_functions_are_made, scripts_declare,
 };
 pub use requests::{
     code_units_have_keys, hidden_ones_stay_hidden, lines_are_printed, own_properties_are_given,
@@ -154,6 +160,7 @@ pub fn calls_throw()
     ensures call_of_object { CallOfObject }
     ensures construct_of_function { ConstructOfFunction }
     ensures call_enters { CallEnters }
+    ensures call_is_the_last { CallIsTheLast }
     ensures call_too_deep { CallTooDeep }
     ensures call_halts { CallHalts }
     ensures call_of_proxy { CallOfProxy }
