@@ -114,12 +114,26 @@ literal_of p = an_expression ∷ a_method ∷ number 5 ∷ node.Primary (primary
 abbrev pub defined_by : Answers → Property → Option (List ℕ)
 defined_by answers p = name_of_object 3 (comes_to answers (anonymous (literal_of p)) 3)
 
+-- a text too long to be an array index
 abbrev pub a_key : Key
-a_key = key.Fixed (codes "a")
+a_key = key.Fixed (codes "description")
 
 -- [5]
 abbrev pub computed : Key
 computed = key.Computed (the 2)
+
+-- { description: function () {} }, { description() {} }, { get description() {} }, { set description() {} }
+abbrev pub PropertyNames : Type 0
+PropertyNames = defined_by usual (property.Value a_key (the 0)) ≡ Some (codes "description")
+
+abbrev pub MethodIsNamed : Type 0
+MethodIsNamed = defined_by usual (property.Method a_key (the 1)) ≡ Some (codes "description")
+
+abbrev pub GetterIsNamed : Type 0
+GetterIsNamed = defined_by usual (property.Getter a_key (the 1)) ≡ Some (codes "get description")
+
+abbrev pub SetterIsNamed : Type 0
+SetterIsNamed = defined_by usual (property.Setter a_key (the 1)) ≡ Some (codes "set description")
 
 -- a function that has a name gets none
 abbrev pub WrittenNameStaysInLiteral : Type 0
