@@ -2,8 +2,10 @@
 
 mod budgets;
 mod builtins;
+mod commands;
 mod endings;
 mod functions;
+mod generated;
 mod host;
 mod limits;
 mod memory;

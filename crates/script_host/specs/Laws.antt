@@ -4,18 +4,20 @@ use Rattle.es_source.specs.declared.faults.SourceFault.{SourceFault}
 use Rattle.es_tree.specs.Tree.{Tree}
 use Rattle.es_serve.specs.Run.{run_of}
 use Rattle.hc_outside.specs.Files.{bytes_named}
+use Rattle.command_words.specs.Orders.{Order, OfFile}
 use Rattle.script_checker.specs.Contract.{IsTreeOf}
 use Rattle.script_rules.specs.FirstFault.{HasFirstFault}
 use Rattle.script_host.specs.declared.status.Status.{Status}
 use Rattle.script_host.specs.declared.status.Status.TheVariants as status
-use Rattle.script_host.specs.Answers.{Answer, Runs, note_of, file_of, FilesChange, IsAnswer}
+use Rattle.script_host.specs.Answers.{Answer, Runs, note_of, FilesChange, IsAnswer}
 use Rattle.script_host.specs.Leaves.{IsRefusal, TookOutput, TookNote, TookNoteOf, Leaves}
 use Rattle.script_host.specs.Sinks.{SinkChange}
 use Rattle.script_host.specs.Expected.{Expected}
 
--- the bytes of a script have one answer
+-- an order of a script with these bytes has one answer
 abbrev pub HasOneAnswer : Type 0
-HasOneAnswer = (bytes : List ℕ) → (answer : Answer) × IsAnswer bytes answer × ((other : Answer) → IsAnswer bytes other → other ≡ answer)
+HasOneAnswer =
+    (order : Order) (bytes : List ℕ) → (answer : Answer) × IsAnswer order bytes answer × ((other : Answer) → IsAnswer order bytes other → other ≡ answer)
 
 -- the bytes have this first fault, no other and no tree
 abbrev pub HasFault : List ℕ → SourceFault → Type 0
@@ -33,27 +35,27 @@ abbrev pub HasOneReading : Type 0
 HasOneReading = (bytes : List ℕ) → HasReading bytes
 
 -- a run of the whole file was expected to end with this status
-abbrev pub RunsRight : List ℕ → SinkChange → SinkChange → Status → Type 0
-RunsRight whole out err ended =
-    (e : Expected) × (e.status ≡ ended) × IsAnswer whole (Runs e) × TookOutput out (Runs e) × TookNoteOf err e.note
+abbrev pub RunsRight : Order → List ℕ → SinkChange → SinkChange → Status → Type 0
+RunsRight order whole out err ended =
+    (e : Expected) × (e.status ≡ ended) × IsAnswer order whole (Runs e) × TookOutput out (Runs e) × TookNoteOf err e.note
 
 -- what each of these statuses says of the whole file
-abbrev pub IsRightFor : List ℕ → SinkChange → SinkChange → Status → Type 0
-IsRightFor whole out err status.Finished = RunsRight whole out err status.Finished
-IsRightFor whole out err status.Thrown = RunsRight whole out err status.Thrown
-IsRightFor whole out err status.BudgetEnded = RunsRight whole out err status.BudgetEnded
-IsRightFor whole out err status.Refused = (answer : Answer) × IsRefusal answer × IsAnswer whole answer × TookNote err (note_of answer)
-IsRightFor whole out err status.Usage = ⊥
-IsRightFor whole out err status.ReadFault = ⊤
-IsRightFor whole out err status.WriteFault = ⊤
-IsRightFor whole out err status.NoMemory = ⊤
+abbrev pub IsRightFor : Order → List ℕ → SinkChange → SinkChange → Status → Type 0
+IsRightFor order whole out err status.Finished = RunsRight order whole out err status.Finished
+IsRightFor order whole out err status.Thrown = RunsRight order whole out err status.Thrown
+IsRightFor order whole out err status.BudgetEnded = RunsRight order whole out err status.BudgetEnded
+IsRightFor order whole out err status.Refused = (answer : Answer) × IsRefusal answer × IsAnswer order whole answer × TookNote err (note_of answer)
+IsRightFor order whole out err status.Usage = ⊥
+IsRightFor order whole out err status.ReadFault = ⊤
+IsRightFor order whole out err status.WriteFault = ⊤
+IsRightFor order whole out err status.NoMemory = ⊤
 
--- where the files tell these bytes under the word, the statuses speak of all of them, although no more than a part is read
+-- where the files tell these bytes under the name that is ordered, the statuses speak of all of them, although no more than a part is read
 abbrev pub SpeaksOfWholeFile : Type 0
 SpeaksOfWholeFile =
-    (words : List (List ℕ)) (files : FilesChange) (out err : SinkChange) (ended : Status) (all : List (List ℕ × List ℕ)) (name whole : List ℕ)
-    → Leaves words files out err ended → files.held ≡ Some all → file_of words ≡ Some name → bytes_named all name ≡ Some whole
-    → IsRightFor whole out err ended
+    (order : Order) (files : FilesChange) (out err : SinkChange) (ended : Status) (all : List (List ℕ × List ℕ)) (name whole : List ℕ)
+    → Leaves (Some order) files out err ended → files.held ≡ Some all → order.source ≡ OfFile name → bytes_named all name ≡ Some whole
+    → IsRightFor order whole out err ended
 
 -- a run takes at most its budget: no more turns are left at its end than there were
 abbrev pub KeepsToBudget : Type 0

@@ -1,6 +1,7 @@
 -- What a call of the host leaves, status by status.
 use Rattle.std.specs.Prelude.{◌≡◌, ◌⊎◌, ◌∷◌, [], ℕ, List, Option, Some, None, codes, ⊤}
 use Rattle.std.specs.Io.KnownBytes.{Keeps}
+use Rattle.command_words.specs.Orders.{Order}
 use Rattle.script_host.specs.declared.status.Status.{Status}
 use Rattle.script_host.specs.declared.status.Status.TheVariants as status
 use Rattle.script_host.specs.Answers.{Answer, Runs, Misuses, Faults, Unbuilt, CannotRead, output_of, note_of, FilesChange, IsAsked}
@@ -34,13 +35,13 @@ CannotWrite answer out err =
     (Failed out (output_of answer) × (TookNote err write_note ⊎ Failed err write_note)) ⊎ (TookOutput out answer × Failed err (note_of answer))
 
 -- want of memory leaves nothing on the output, or a front of what an answer that was asked for puts there
-abbrev pub LeavesOutput : List (List ℕ) → FilesChange → SinkChange → Type 0
-LeavesOutput words files out = Keeps out.old.held out.new.held ⊎ ((answer : Answer) × IsAsked words files answer × TookFront out (output_of answer))
+abbrev pub LeavesOutput : Option Order → FilesChange → SinkChange → Type 0
+LeavesOutput ordered files out = Keeps out.old.held out.new.held ⊎ ((answer : Answer) × IsAsked ordered files answer × TookFront out (output_of answer))
 
 -- and a front of that answer's note, or of the note on writing or on memory
-abbrev pub LeavesNote : List (List ℕ) → FilesChange → SinkChange → Type 0
-LeavesNote words files err =
-    TookFront err memory_note ⊎ TookFront err write_note ⊎ ((answer : Answer) × IsAsked words files answer × TookFront err (note_of answer))
+abbrev pub LeavesNote : Option Order → FilesChange → SinkChange → Type 0
+LeavesNote ordered files err =
+    TookFront err memory_note ⊎ TookFront err write_note ⊎ ((answer : Answer) × IsAsked ordered files answer × TookFront err (note_of answer))
 
 -- an answer that refuses the script, for a fault or for a construct that does not run yet
 abbrev pub IsRefusal : Answer → Type 0
@@ -51,21 +52,21 @@ IsRefusal Misuses = ⊥
 IsRefusal (CannotRead name) = ⊥
 
 -- a run that was expected to end with this status
-abbrev pub LeavesRun : List (List ℕ) → FilesChange → SinkChange → SinkChange → Status → Type 0
-LeavesRun words files out err ended =
-    (e : Expected) × (e.status ≡ ended) × IsAsked words files (Runs e) × TookOutput out (Runs e) × TookNoteOf err e.note
+abbrev pub LeavesRun : Option Order → FilesChange → SinkChange → SinkChange → Status → Type 0
+LeavesRun ordered files out err ended =
+    (e : Expected) × (e.status ≡ ended) × IsAsked ordered files (Runs e) × TookOutput out (Runs e) × TookNoteOf err e.note
 
-abbrev pub Leaves : List (List ℕ) → FilesChange → SinkChange → SinkChange → Status → Type 0
-Leaves words files out err status.Finished = LeavesRun words files out err status.Finished
-Leaves words files out err status.Thrown = LeavesRun words files out err status.Thrown
-Leaves words files out err status.BudgetEnded = LeavesRun words files out err status.BudgetEnded
-Leaves words files out err status.Usage = IsAsked words files Misuses × TookOutput out Misuses × TookNote err (note_of Misuses)
-Leaves words files out err status.Refused =
-    (answer : Answer) × IsRefusal answer × IsAsked words files answer × TookOutput out answer × TookNote err (note_of answer)
-Leaves words files out err status.ReadFault =
-    (name : List ℕ) × IsAsked words files (CannotRead name) × TookOutput out (CannotRead name) × TookNote err (note_of (CannotRead name))
-Leaves words files out err status.WriteFault = (answer : Answer) × IsAsked words files answer × CannotWrite answer out err
-Leaves words files out err status.NoMemory = LeavesOutput words files out × LeavesNote words files err
+abbrev pub Leaves : Option Order → FilesChange → SinkChange → SinkChange → Status → Type 0
+Leaves ordered files out err status.Finished = LeavesRun ordered files out err status.Finished
+Leaves ordered files out err status.Thrown = LeavesRun ordered files out err status.Thrown
+Leaves ordered files out err status.BudgetEnded = LeavesRun ordered files out err status.BudgetEnded
+Leaves ordered files out err status.Usage = IsAsked ordered files Misuses × TookOutput out Misuses × TookNote err (note_of Misuses)
+Leaves ordered files out err status.Refused =
+    (answer : Answer) × IsRefusal answer × IsAsked ordered files answer × TookOutput out answer × TookNote err (note_of answer)
+Leaves ordered files out err status.ReadFault =
+    (name : List ℕ) × IsAsked ordered files (CannotRead name) × TookOutput out (CannotRead name) × TookNote err (note_of (CannotRead name))
+Leaves ordered files out err status.WriteFault = (answer : Answer) × IsAsked ordered files answer × CannotWrite answer out err
+Leaves ordered files out err status.NoMemory = LeavesOutput ordered files out × LeavesNote ordered files err
 
 -- the names that files are asked for grow by the file's name alone, once, or not at all
 abbrev pub AsksFor : Option (List ℕ) → List (List ℕ) → List (List ℕ) → Type 0

@@ -1,7 +1,8 @@
 -- The parts of a call of the host: what is settled before a note, and how a note ends it.
-use Rattle.std.specs.Prelude.{◌≡◌, ◌⊎◌, ℕ, List, None, Result, Ok, Err}
+use Rattle.std.specs.Prelude.{◌≡◌, ◌⊎◌, ℕ, List, Option, None, Result, Ok, Err}
 use Rattle.std.specs.Io.KnownBytes.{Keeps}
 use Rattle.hc_outside.specs.Causes.{Rises}
+use Rattle.command_words.specs.Orders.{Order}
 use Rattle.property_keys.specs.declared.values.Value.{Value}
 use Rattle.es_tree.specs.Tree.{Tree}
 use Rattle.es_model.specs.World.{World}
@@ -19,16 +20,22 @@ use Rattle.script_host.specs.declared.running.HostStop.{HostStop}
 use Rattle.script_host.specs.declared.running.HostStop.TheVariants.{WriteFault, NoMemory}
 use Rattle.script_host.specs.declared.running.Ran.{Ran}
 use Rattle.script_host.specs.Answers.{Answer, Runs, Misuses, Faults, Unbuilt, CannotRead, output_of, FilesChange, IsAnswer, IsAsked}
-use Rattle.script_host.specs.Expected.{budget, budget_note, expected}
+use Rattle.script_host.specs.Expected.{budget_note, expected}
 use Rattle.script_host.specs.Leaves.{TookOutput, TookNote, memory_note, LeavesOutput}
 use Rattle.script_host.specs.Running.{EndsAs}
-use Rattle.script_host.specs.Sinks.{SinkChange, Failed, Flushed, TookFront, TookLines, Untouched}
+use Rattle.script_host.specs.Sinks.{SinkChange, Failed, Flushed, TookFront, TookLines, Untouched, Wrote}
 use Rattle.script_host.specs.Unbuilt.{unbuilt}
 use Rattle.script_host.specs.Uncaught.{uncaught_note}
 
 -- a script ran to its end, and the output has what it is expected to put there
-abbrev pub HasRun : Tree → SinkChange → Ran → Type 0
-HasRun tree out ran = EndsAs tree budget ran × TookLines out (expected tree).output
+abbrev pub HasRun : Order → List ℕ → Tree → SinkChange → Ran → Type 0
+HasRun order bytes tree out ran = EndsAs tree order.budget ran × TookLines out (expected order bytes tree).output
+
+-- the line behind a run, where there is one
+abbrev pub TakesSummary : List ℕ → SinkChange → Result (Unit {0}) HostStop → Type 0
+TakesSummary summary out (Ok done) = Wrote out summary
+TakesSummary summary out (Err WriteFault) = Failed out summary
+TakesSummary summary out (Err NoMemory) = TookFront out summary
 
 -- the flush behind a run
 abbrev pub FlushesRun : Ran → SinkChange → Result Ran HostStop → Type 0
@@ -36,29 +43,38 @@ FlushesRun ran out (Ok flushed) = (flushed ≡ ran) × Flushed out
 FlushesRun ran out (Err WriteFault) = Rises out.old.faults out.new.faults × Keeps out.old.held out.new.held
 FlushesRun ran out (Err NoMemory) = Keeps out.old.held out.new.held
 
--- a run, with the flush behind it
-abbrev pub SettlesRun : Tree → SinkChange → Result Ran HostStop → Type 0
-SettlesRun tree out (Ok ran) = HasRun tree out ran
-SettlesRun tree out (Err WriteFault) = Failed out (expected tree).output
-SettlesRun tree out (Err NoMemory) = TookFront out (expected tree).output
+-- the line behind a run, and the flush behind that
+abbrev pub ClosesRun : Ran → List ℕ → SinkChange → Result Ran HostStop → Type 0
+ClosesRun ran summary out (Ok closed) = (closed ≡ ran) × TookLines out summary
+ClosesRun ran summary out (Err WriteFault) = Failed out summary
+ClosesRun ran summary out (Err NoMemory) = TookFront out summary
+
+-- a run, with the line and the flush behind it
+abbrev pub SettlesRun : Order → List ℕ → Tree → SinkChange → Result Ran HostStop → Type 0
+SettlesRun order bytes tree out (Ok ran) = HasRun order bytes tree out ran
+SettlesRun order bytes tree out (Err WriteFault) = Failed out (expected order bytes tree).output
+SettlesRun order bytes tree out (Err NoMemory) = TookFront out (expected order bytes tree).output
 
 -- the bytes have an answer, and the output has what it puts there
-abbrev pub SettlesScript : List ℕ → SinkChange → Result ScriptOutcome HostStop → Type 0
-SettlesScript bytes out (Ok (script.Ran ran)) = (tree : Tree) × IsTreeOf bytes tree × (unbuilt tree ≡ None) × HasRun tree out ran
-SettlesScript bytes out (Ok (script.Faulty fault)) = IsAnswer bytes (Faults fault) × TookOutput out (Faults fault)
-SettlesScript bytes out (Ok (script.Unbuilt place)) = IsAnswer bytes (Unbuilt place) × TookOutput out (Unbuilt place)
-SettlesScript bytes out (Err WriteFault) = (answer : Answer) × IsAnswer bytes answer × Failed out (output_of answer)
-SettlesScript bytes out (Err NoMemory) = Keeps out.old.held out.new.held ⊎ ((answer : Answer) × IsAnswer bytes answer × TookFront out (output_of answer))
+abbrev pub SettlesScript : Order → List ℕ → SinkChange → Result ScriptOutcome HostStop → Type 0
+SettlesScript order bytes out (Ok (script.Ran ran)) =
+    (tree : Tree) × IsTreeOf bytes tree × (unbuilt tree ≡ None) × HasRun order bytes tree out ran
+SettlesScript order bytes out (Ok (script.Faulty fault)) = IsAnswer order bytes (Faults fault) × TookOutput out (Faults fault)
+SettlesScript order bytes out (Ok (script.Unbuilt place)) = IsAnswer order bytes (Unbuilt place) × TookOutput out (Unbuilt place)
+SettlesScript order bytes out (Err WriteFault) = (answer : Answer) × IsAnswer order bytes answer × Failed out (output_of answer)
+SettlesScript order bytes out (Err NoMemory) =
+    Keeps out.old.held out.new.held ⊎ ((answer : Answer) × IsAnswer order bytes answer × TookFront out (output_of answer))
 
 -- an answer is asked for, and the output has what it puts there
-abbrev pub Settles : List (List ℕ) → FilesChange → SinkChange → Result Outcome HostStop → Type 0
-Settles words files out (Ok (outcome.Script (script.Ran ran))) = (tree : Tree) × IsAsked words files (Runs (expected tree)) × HasRun tree out ran
-Settles words files out (Ok (outcome.Script (script.Faulty fault))) = IsAsked words files (Faults fault) × TookOutput out (Faults fault)
-Settles words files out (Ok (outcome.Script (script.Unbuilt place))) = IsAsked words files (Unbuilt place) × TookOutput out (Unbuilt place)
-Settles words files out (Ok outcome.Usage) = IsAsked words files Misuses × TookOutput out Misuses
-Settles words files out (Ok (outcome.CannotRead name)) = IsAsked words files (CannotRead name.now) × TookOutput out (CannotRead name.now)
-Settles words files out (Err WriteFault) = (answer : Answer) × IsAsked words files answer × Failed out (output_of answer)
-Settles words files out (Err NoMemory) = LeavesOutput words files out
+abbrev pub Settles : Option Order → FilesChange → SinkChange → Result Outcome HostStop → Type 0
+Settles ordered files out (Ok (outcome.Script (script.Ran ran))) =
+    (order : Order) × (bytes : List ℕ) × (tree : Tree) × IsAsked ordered files (Runs (expected order bytes tree)) × HasRun order bytes tree out ran
+Settles ordered files out (Ok (outcome.Script (script.Faulty fault))) = IsAsked ordered files (Faults fault) × TookOutput out (Faults fault)
+Settles ordered files out (Ok (outcome.Script (script.Unbuilt place))) = IsAsked ordered files (Unbuilt place) × TookOutput out (Unbuilt place)
+Settles ordered files out (Ok outcome.Usage) = IsAsked ordered files Misuses × TookOutput out Misuses
+Settles ordered files out (Ok (outcome.CannotRead name)) = IsAsked ordered files (CannotRead name) × TookOutput out (CannotRead name)
+Settles ordered files out (Err WriteFault) = (answer : Answer) × IsAsked ordered files answer × Failed out (output_of answer)
+Settles ordered files out (Err NoMemory) = LeavesOutput ordered files out
 
 -- the status after a note that was to be written
 abbrev pub EndsNoted : SinkChange → List ℕ → Status → Status → Type 0

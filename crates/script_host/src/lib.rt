@@ -16,10 +16,10 @@ mod texts;
 mod top_call;
 mod uncaught;
 mod unfinished;
-mod words;
 
 pub use es_source::Place;
 pub use running::{Ending, HostStop, Ran, run};
+pub use script_generator::generated;
 pub use status::Status;
 pub use top_call::hcjs;
 pub use unfinished::unbuilt;

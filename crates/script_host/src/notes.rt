@@ -22,7 +22,7 @@ use property_keys::{Ledger, NoMemory, Steps, Value};
 use std::alloc::Global;
 use std::convert::AsStr;
 
-pub const USAGE: &[u8] = b"hcjs: usage: hcjs FILE\n";
+pub const USAGE: &[u8] = b"hcjs: usage: hcjs [--budget N] [--generate N] [FILE]\n";
 
 pub const BUDGET_ENDED: &[u8] = b"hcjs: budget ended\n";
 

@@ -45,7 +45,7 @@ pub enum HostStop {
 }
 
 /// Writes a line by one `write`.
-fn write_line<O: Sink>(out: &mut O, line: &[u8]) -> Result<(), HostStop>
+pub(crate) fn write_line<O: Sink>(out: &mut O, line: &[u8]) -> Result<(), HostStop>
     ensures { TakesLine line.now (change (sink_view (O.held out.old) (O.writes out.old) (O.flushes out.old) (O.faults out.old))
         (sink_view (O.held out.new) (O.writes out.new) (O.flushes out.new) (O.faults out.new))) result }
 {

@@ -2,6 +2,7 @@
 
 ghost use Rattle.std.specs.Prelude.{◌+◌};
 ghost use Rattle.property_keys.specs.Counts.{TakesAtMost};
+ghost use Rattle.command_words.specs.Orders.{order_of};
 ghost use Rattle.script_host.specs.Answers.{file_of, files_change};
 ghost use Rattle.script_host.specs.Leaves.{AsksFor, Leaves};
 ghost use Rattle.script_host.specs.Sinks.{change, sink_view};
@@ -33,12 +34,12 @@ pub fn hcjs<F: Files, O: Sink, E: Sink, L: Ledger>(
     err: &mut E,
     steps: &mut Steps<L>,
 ) -> Status
-    ensures leaves { Leaves words.now (files_change (F.held files.old) (F.faults files.old) (F.faults files.new))
+    ensures leaves { Leaves (order_of words.now) (files_change (F.held files.old) (F.faults files.old) (F.faults files.new))
         (change (sink_view (O.held out.old) (O.writes out.old) (O.flushes out.old) (O.faults out.old))
         (sink_view (O.held out.new) (O.writes out.new) (O.flushes out.new) (O.faults out.new)))
         (change (sink_view (E.held err.old) (E.writes err.old) (E.flushes err.old) (E.faults err.old))
         (sink_view (E.held err.new) (E.writes err.new) (E.flushes err.new) (E.faults err.new))) result }
-    ensures names { AsksFor (file_of words.now) (F.asked files.old) (F.asked files.new) }
+    ensures names { AsksFor (file_of (order_of words.now)) (F.asked files.old) (F.asked files.new) }
     ensures reads { TakesAtMost (MOST_BYTES + 1) (F.reads files.old) (F.reads files.new) }
 {
     match settle(alloc, words, files, out, steps) {
@@ -52,7 +53,7 @@ pub fn hcjs<F: Files, O: Sink, E: Sink, L: Ledger>(
         }
         Ok(Outcome::CannotRead(name)) => ended_with(
             err,
-            cannot_read(alloc, name),
+            cannot_read(alloc, &name),
             Status::ReadFault,
         ),
         Err(HostStop::WriteFault) => ended(err, CANNOT_WRITE, Status::WriteFault),

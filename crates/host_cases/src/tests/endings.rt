@@ -28,7 +28,7 @@ static CASES: &[Case] = &[
         fails: (0, 0, 0),
         status: Status::Usage,
         out: "",
-        err: "hcjs: usage: hcjs FILE\n",
+        err: "hcjs: usage: hcjs [--budget N] [--generate N] [FILE]\n",
     },
     Case {
         words: "y.js",
@@ -44,7 +44,7 @@ static CASES: &[Case] = &[
         fails: (0, 0, 0),
         status: Status::Usage,
         out: "",
-        err: "hcjs: usage: hcjs FILE\n",
+        err: "hcjs: usage: hcjs [--budget N] [--generate N] [FILE]\n",
     },
     Case {
         words: "-x.js",
@@ -52,7 +52,7 @@ static CASES: &[Case] = &[
         fails: (0, 0, 0),
         status: Status::Usage,
         out: "",
-        err: "hcjs: usage: hcjs FILE\n",
+        err: "hcjs: usage: hcjs [--budget N] [--generate N] [FILE]\n",
     },
     Case {
         words: "x.js",
@@ -191,12 +191,12 @@ static CASES: &[Case] = &[
         err: "hcjs: cannot write\n",
     },
     Case {
-        words: "-",
+        words: "-x.js",
         file: "let o = {};\no.a = 7;\nprint(o.a);\nprint(o.b);\n",
         fails: (0, 0, 1),
         status: Status::WriteFault,
         out: "",
-        err: "hcjs: usage",
+        err: "hcjs: usage: hcjs [--budge",
     },
     // an uncaught value, and the end of the turns: what is printed stays, the note is one write
     Case {

@@ -9,7 +9,7 @@ use std::test::Fail;
 /// The calls of the files, of the output and of the error output that are to fail (0: none).
 pub type Failing = (u64, u64, u64);
 
-const NONE_FAILS: Failing = (0, 0, 0);
+pub const NONE_FAILS: Failing = (0, 0, 0);
 
 /// What a call leaves: its status, and whether each sink holds what is wanted.
 #[derive(Drop)]
@@ -33,7 +33,7 @@ fn words_of(alloc: Global, words: &str) -> Result<Vec<Text>, Fail> {
     Ok(all)
 }
 
-/// Calls the host with words (by spaces) and these bytes under `x.js`.
+/// Calls the host with words (by spaces, none of them empty) and these bytes under `x.js`.
 pub fn call(
     alloc: Global,
     words: &str,
@@ -43,20 +43,25 @@ pub fn call(
     err_wanted: &str,
 ) -> Result<Left, Fail> {
     let words = words_of(alloc, words)?;
+    call_with(alloc, &words, file, fails, out_wanted, err_wanted)
+}
+
+/// Calls the host with these words and these bytes under `x.js`.
+pub fn call_with(
+    alloc: Global,
+    words: &[Text],
+    file: &[u8],
+    fails: Failing,
+    out_wanted: &str,
+    err_wanted: &str,
+) -> Result<Left, Fail> {
     let mut named = NamedFiles::new(alloc);
     named.push(text(alloc, "x.js")?, file)?;
     let mut files = MemoryFiles::new(alloc, named, failing(alloc, fails.0)?);
     let mut out = MemorySink::new(alloc, failing(alloc, fails.1)?);
     let mut err = MemorySink::new(alloc, failing(alloc, fails.2)?);
     let mut steps = Steps::new(Counting::new());
-    let status = hcjs(
-        alloc,
-        words.as_slice(),
-        &mut files,
-        &mut out,
-        &mut err,
-        &mut steps,
-    );
+    let status = hcjs(alloc, words, &mut files, &mut out, &mut err, &mut steps);
     Ok(Left {
         status,
         out: out.held() == out_wanted.as_bytes(),

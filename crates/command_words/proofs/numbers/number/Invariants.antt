@@ -1,0 +1,9 @@
+use Rattle.std.proofs.Common.{◌≡◌, ◌<◌, ◌^◌, drop}
+use Rattle.command_words.specs.Numbers.{number_from}
+use Rattle.command_words.proofs.numbers.number.Given as goal
+
+abbrev pub invariant-loop-digit : goal.invariant-loop-digit
+invariant-loop-digit l = record {
+  bound : l.value < 10 ^ l.digit-index;
+  spelled : number_from l.value (drop l.digit-index l.digits) ≡ number_from 0 l.digits;
+}
