@@ -31,6 +31,7 @@ fn first_scripts(rt: HostRuntime) -> Result<(), Fail> {
     assert!(rt; two.as_slice() == TWO);
     assert_eq!(rt; two.len(), 149);
     let ten = generated(rt.alloc(), 10)?;
-    assert!(rt; &ten[9 + 9 * 65..] == TENTH);
+    assert!(rt; ten.as_slice().ends_with(TENTH));
+    assert_eq!(rt; ten.len(), 9 + 9 * 65 + 38 + 33 + 10);
     Ok(())
 }
