@@ -36,6 +36,7 @@ use Rattle.es_model.specs.programs.Testing.{as_object, is_callable, is_truth}
 use Rattle.es_model.specs.programs.Abrupt.{list_in}
 use Rattle.es_model.specs.programs.Texts.{to_string}
 use Rattle.es_model.proofs.Abrupt.{answer-kept, list-there}
+use Rattle.es_model.proofs.ArrayLengths.{IsNoArray, no_array-later}
 use Rattle.es_model.proofs.KnownLater.{known-later, object-later, text-later}
 use Rattle.es_model.proofs.SharedKept.{IsNumberAnswer, flag-kept, get_named-kept, has_named-kept, not_function-kept, not_object-kept, then_whole-kept, to_number-kept, value-kept}
 use Rattle.es_model.proofs.SoundChanges.{sound-symbol}
@@ -210,21 +211,21 @@ apply_with-kept g this vs w f receiver (value.Object o) s fk rk lk = apply_list-
 
 -- ---- Error
 
-cause_put-kept : (t : Task) → TakesObject t → (w : World) (e : ObjectId) (v : Value) → IsSound w → IsObject w.lists e → IsKnown w.lists v → IsKept (FitsTask t) (cause_put e v) w
-cause_put-kept t takes w e v s there known =
-    put_named-kept t w e (codes "cause") v (gives (value.Object e)) s there known (omega arith) refl (λ u su l. (su, takes u.lists e (object-later w.lists u.lists l.lists e there)))
+cause_put-kept : (t : Task) → TakesObject t → (w : World) (e : ObjectId) (v : Value) → IsSound w → IsNoArray w.lists e → IsKnown w.lists v → IsKept (FitsTask t) (cause_put e v) w
+cause_put-kept t takes w e v s plain known =
+    put_named-kept t w e (codes "cause") v (gives (value.Object e)) s plain known (omega arith) refl (λ u su l. (su, takes u.lists e (no_array-later w.lists u.lists l.lists e plain).there))
 
-cause_is_there-kept : (t : Task) → TakesObject t → (w : World) (e options : ObjectId) (b : Bool) → IsSound w → IsObject w.lists e → IsObject w.lists options → IsKept (FitsTask t) (cause_is_there e options b) w
-cause_is_there-kept t takes w e options true s there known =
+cause_is_there-kept : (t : Task) → TakesObject t → (w : World) (e options : ObjectId) (b : Bool) → IsSound w → IsNoArray w.lists e → IsObject w.lists options → IsKept (FitsTask t) (cause_is_there e options b) w
+cause_is_there-kept t takes w e options true s plain known =
     get_named-kept (FitsTask t) w options (codes "cause") (cause_given e) s known (omega arith) refl (λ c u su l fit.
-    value-kept t (Read options (Name (number_of w.lists (codes "cause"))) (value.Object options) None) u (cause_put e) c su fit (λ v vk. cause_put-kept t takes u e v su (object-later w.lists u.lists l.lists e there) vk))
-cause_is_there-kept t takes w e options false s there known = (s, takes w.lists e there)
+    value-kept t (Read options (Name (number_of w.lists (codes "cause"))) (value.Object options) None) u (cause_put e) c su fit (λ v vk. cause_put-kept t takes u e v su (no_array-later w.lists u.lists l.lists e plain) vk))
+cause_is_there-kept t takes w e options false s plain known = (s, takes w.lists e plain.there)
 
-cause_by-kept : (t : Task) → TakesObject t → (w : World) (e : ObjectId) (options : Option ObjectId) → IsSound w → IsObject w.lists e → IfThere (IsObject w.lists) options → IsKept (FitsTask t) (cause_by e options) w
-cause_by-kept t takes w e (Some options) s there known =
+cause_by-kept : (t : Task) → TakesObject t → (w : World) (e : ObjectId) (options : Option ObjectId) → IsSound w → IsNoArray w.lists e → IfThere (IsObject w.lists) options → IsKept (FitsTask t) (cause_by e options) w
+cause_by-kept t takes w e (Some options) s plain known =
     has_named-kept (FitsTask t) w options (codes "cause") (cause_had e options) s known (omega arith) refl (λ c u su l fit.
-    flag-kept t (Has options (Name (number_of w.lists (codes "cause")))) u (cause_is_there e options) c su fit (λ b. cause_is_there-kept t takes u e options b su (object-later w.lists u.lists l.lists e there) (object-later w.lists u.lists l.lists options known)))
-cause_by-kept t takes w e None s there known = (s, takes w.lists e there)
+    flag-kept t (Has options (Name (number_of w.lists (codes "cause")))) u (cause_is_there e options) c su fit (λ b. cause_is_there-kept t takes u e options b su (no_array-later w.lists u.lists l.lists e plain) (object-later w.lists u.lists l.lists options known)))
+cause_by-kept t takes w e None s plain known = (s, takes w.lists e plain.there)
 
 as_object-known : (l : Lists) (v : Value) → IsKnown l v → IfThere (IsObject l) (as_object v)
 as_object-known l value.Undefined known = tt
@@ -235,35 +236,35 @@ as_object-known l (value.Text x) known = tt
 as_object-known l (value.Symbol x) known = tt
 as_object-known l (value.Object o) known = known
 
-install_cause-kept : (t : Task) → TakesObject t → (w : World) (e : ObjectId) (options : Value) → IsSound w → IsObject w.lists e → IsKnown w.lists options → IsKept (FitsTask t) (install_cause e options) w
-install_cause-kept t takes w e options s there known = cause_by-kept t takes w e (as_object options) s there (as_object-known w.lists options known)
+install_cause-kept : (t : Task) → TakesObject t → (w : World) (e : ObjectId) (options : Value) → IsSound w → IsNoArray w.lists e → IsKnown w.lists options → IsKept (FitsTask t) (install_cause e options) w
+install_cause-kept t takes w e options s plain known = cause_by-kept t takes w e (as_object options) s plain (as_object-known w.lists options known)
 
-message_put-kept : (t : Task) → TakesObject t → (w : World) (e : ObjectId) (options : Value) (x : TextId) → IsSound w → IsObject w.lists e → IsKnown w.lists options → IsText w.lists x → IsKept (FitsTask t) (message_put e options x) w
-message_put-kept t takes w e options x s there known text =
-    put_named-kept t w e (codes "message") (value.Text x) (install_cause e options) s there text (omega arith) refl (λ u su l.
-    install_cause-kept t takes u e options su (object-later w.lists u.lists l.lists e there) (known-later w.lists u.lists l.lists options known))
+message_put-kept : (t : Task) → TakesObject t → (w : World) (e : ObjectId) (options : Value) (x : TextId) → IsSound w → IsNoArray w.lists e → IsKnown w.lists options → IsText w.lists x → IsKept (FitsTask t) (message_put e options x) w
+message_put-kept t takes w e options x s plain known text =
+    put_named-kept t w e (codes "message") (value.Text x) (install_cause e options) s plain text (omega arith) refl (λ u su l.
+    install_cause-kept t takes u e options su (no_array-later w.lists u.lists l.lists e plain) (known-later w.lists u.lists l.lists options known))
 
-asked_message-kept : (t : Task) → TakesObject t → (w : World) (e : ObjectId) (message options : Value) → IsSound w → IsObject w.lists e → IsKnown w.lists message → IsKnown w.lists options →
+asked_message-kept : (t : Task) → TakesObject t → (w : World) (e : ObjectId) (message options : Value) → IsSound w → IsNoArray w.lists e → IsKnown w.lists message → IsKnown w.lists options →
     IsKept (FitsTask t) (to_string message (message_given e options)) w
-asked_message-kept t takes w e message options s there mk ok =
+asked_message-kept t takes w e message options s plain mk ok =
     to_string-kept t w message (message_given e options) s mk (λ c u su l fit. then_text-kept t u (message_put e options) c su fit (λ x text.
-    message_put-kept t takes u e options x su (object-later w.lists u.lists l.lists e there) (known-later w.lists u.lists l.lists options ok) text))
+    message_put-kept t takes u e options x su (no_array-later w.lists u.lists l.lists e plain) (known-later w.lists u.lists l.lists options ok) text))
 
-with_message-kept : (t : Task) → TakesObject t → (w : World) (e : ObjectId) (message options : Value) → IsSound w → IsObject w.lists e → IsKnown w.lists message → IsKnown w.lists options →
+with_message-kept : (t : Task) → TakesObject t → (w : World) (e : ObjectId) (message options : Value) → IsSound w → IsNoArray w.lists e → IsKnown w.lists message → IsKnown w.lists options →
     IsKept (FitsTask t) (with_message e message options) w
-with_message-kept t takes w e value.Undefined options s there mk ok = install_cause-kept t takes w e options s there ok
-with_message-kept t takes w e value.Null options s there mk ok = asked_message-kept t takes w e value.Null options s there mk ok
-with_message-kept t takes w e (value.Bool b) options s there mk ok = asked_message-kept t takes w e (value.Bool b) options s there mk ok
-with_message-kept t takes w e (value.Whole n) options s there mk ok = asked_message-kept t takes w e (value.Whole n) options s there mk ok
-with_message-kept t takes w e (value.Text x) options s there mk ok = asked_message-kept t takes w e (value.Text x) options s there mk ok
-with_message-kept t takes w e (value.Symbol x) options s there mk ok = asked_message-kept t takes w e (value.Symbol x) options s there mk ok
-with_message-kept t takes w e (value.Object o) options s there mk ok = asked_message-kept t takes w e (value.Object o) options s there mk ok
+with_message-kept t takes w e value.Undefined options s plain mk ok = install_cause-kept t takes w e options s plain ok
+with_message-kept t takes w e value.Null options s plain mk ok = asked_message-kept t takes w e value.Null options s plain mk ok
+with_message-kept t takes w e (value.Bool b) options s plain mk ok = asked_message-kept t takes w e (value.Bool b) options s plain mk ok
+with_message-kept t takes w e (value.Whole n) options s plain mk ok = asked_message-kept t takes w e (value.Whole n) options s plain mk ok
+with_message-kept t takes w e (value.Text x) options s plain mk ok = asked_message-kept t takes w e (value.Text x) options s plain mk ok
+with_message-kept t takes w e (value.Symbol x) options s plain mk ok = asked_message-kept t takes w e (value.Symbol x) options s plain mk ok
+with_message-kept t takes w e (value.Object o) options s plain mk ok = asked_message-kept t takes w e (value.Object o) options s plain mk ok
 
 error_made-kept : (t : Task) → TakesObject t → (w : World) (message options : Value) (p : ObjectId) → IsSound w → IsKnown w.lists message → IsKnown w.lists options → IsObject w.lists p →
     IsKept (FitsTask t) (error_made message options p) w
 error_made-kept t takes w message options p s mk ok there =
-    make_error-kept t w p (λ e. with_message e message options) s there (λ e u su l e-there.
-    with_message-kept t takes u e message options su e-there (known-later w.lists u.lists l.lists message mk) (known-later w.lists u.lists l.lists options ok))
+    make_error-kept t w p (λ e. with_message e message options) s there (λ e u su l plain.
+    with_message-kept t takes u e message options su plain (known-later w.lists u.lists l.lists message mk) (known-later w.lists u.lists l.lists options ok))
 
 error_constructed-kept : (t : Task) → TakesObject t → (w : World) (k : ErrorKind) (vs : List Value) (target : ObjectId) → IsSound w → AreKnown w.lists vs → IsObject w.lists target →
     IsKept (FitsTask t) (error_constructed k vs target) w

@@ -35,6 +35,8 @@ use Rattle.es_model.proofs.Growing.{grows-changed}
 use Rattle.es_model.proofs.Keeping.{later_none, later_then}
 use Rattle.es_model.proofs.KnownLater.{known-later, object-later}
 use Rattle.es_model.proofs.SharedKept.{later-changed, name-known, value-kept}
+use Rattle.es_model.proofs.ArrayLengths.{IsNoArray, no_array-later, no_array-leaves}
+use Rattle.es_model.proofs.SoundArrays.{made-no_array}
 use Rattle.es_model.proofs.SoundChanges.{sound-defining, sound-interning, sound-making}
 use Rattle.es_model.proofs.SoundErrors.{error-kept, interned-known, noted-objects, throw-fits}
 use Rattle.core_builtins.specs.Answers.{first_given, first_of, inner_of, inner_value, rest_of, second_of, wrong_value}
@@ -159,31 +161,28 @@ wrapper-there w v p =
 pub wrapper_made-kept : (t : Task) → TakesObject t → (w : World) (v : Value) (p : ObjectId) → IsSound w → IsKnown w.lists v → IsObject w.lists p → IsKept (FitsTask t) (wrapper_made v p) w
 wrapper_made-kept t takes w v p s known there =
     let op : Change = Making (kind_of.Wrapper v) OfWrapper (Some p) in
-    (sound-making w (kind_of.Wrapper v) OfWrapper (Some p) s known tt there, takes (changed op w).lists (new_object w.lists) (wrapper-there w v (Some p)))
+    (sound-making w (kind_of.Wrapper v) OfWrapper (Some p) s known tt there refl, takes (changed op w).lists (new_object w.lists) (wrapper-there w v (Some p)))
 
-error-there : (w : World) (p : Option ObjectId) → IsObject (changed (Making kind_of.Error OfError p) w).lists (new_object w.lists)
-unfolding changed made
-error-there w p =
-    let n = length-append w.lists.objects (new_object_of kind_of.Error p ∷ []) in
-    let same = noted-objects (with_objects w (w.lists.objects ++ new_object_of kind_of.Error p ∷ [])) p in omega arith
-
+-- what follows, with the new object, which is no Array
 abbrev pub OnObject : Task → World → (ObjectId → Program) → Type 0
-OnObject t w next = (o : ObjectId) (u : World) → IsSound u → IsLater w u → IsObject u.lists o → IsKept (FitsTask t) (next o) u
+OnObject t w next = (o : ObjectId) (u : World) → IsSound u → IsLater w u → IsNoArray u.lists o → IsKept (FitsTask t) (next o) u
 
 -- a new error, and what follows
 pub make_error-kept : (t : Task) (w : World) (p : ObjectId) (next : ObjectId → Program) → IsSound w → IsObject w.lists p → OnObject t w next → IsKept (FitsTask t) (make kind_of.Error OfError (Some p) next) w
 make_error-kept t w p next s there h =
     let op : Change = Making kind_of.Error OfError (Some p) in
-    h (new_object w.lists) (changed op w) (sound-making w kind_of.Error OfError (Some p) s tt tt there) (later-changed op w) (error-there w (Some p))
+    h (new_object w.lists) (changed op w) (sound-making w kind_of.Error OfError (Some p) s tt tt there refl) (later-changed op w) (made-no_array w kind_of.Error OfError (Some p) refl)
 
--- a property of an object, by a name of the standard's own, and what follows
-pub put_named-kept : (t : Task) (w : World) (o : ObjectId) (name : List ℕ) (v : Value) (next : Program) → IsSound w → IsObject w.lists o → IsKnown w.lists v → IsShort name → natural_of 10 name ≡ None →
+-- a property of an object that is no Array, by a name of the standard's own, and what follows
+pub put_named-kept : (t : Task) (w : World) (o : ObjectId) (name : List ℕ) (v : Value) (next : Program) → IsSound w → IsNoArray w.lists o → IsKnown w.lists v → IsShort name → natural_of 10 name ≡ None →
     ((u : World) → IsSound u → IsLater w u → IsKept (FitsTask t) next u) → IsKept (FitsTask t) (put_named o name v next) w
-put_named-kept t w o name v next s there known short plain h =
+put_named-kept t w o name v next s plain known short no_index h =
     let a : World = changed (Interning name) w in
     let g = grows-changed (Interning name) w in
     let d : Descriptor = hidden v in
     let op : Change = Defining o (Name (number_of w.lists name)) d in
+    let here : IsNoArray a.lists o = no_array-later w.lists a.lists g o plain in
     h (changed op a)
-    (sound-defining a o (Name (number_of w.lists name)) d (sound-interning w name s short) (object-later w.lists a.lists g o there) (name-known w name plain) (record { value = known-later w.lists a.lists g v known; get = tt; set = tt; sound = refl }))
+    (sound-defining a o (Name (number_of w.lists name)) d (sound-interning w name s short) here.there (name-known w name no_index) (record { value = known-later w.lists a.lists g v known; get = tt; set = tt; sound = refl })
+    (no_array-leaves a.lists o (Name (number_of w.lists name)) d.value here.other))
     (later_then w a (changed op a) (later-changed (Interning name) w) (later-changed op a))

@@ -21,9 +21,9 @@ use Rattle.es_model.proofs.Rests.{leaves-changed}
 use Rattle.es_model.proofs.Unwound.{stays_none}
 use Rattle.core_builtins.specs.Core.{call_of as core_call, construct_of as core_construct, core_program, row_called, row_of}
 use Rattle.plain_builtins.specs.Plain.{call_by, callee_of, plain_program, print_row, row_program}
-use Rattle.es_serve.specs.Serve.{call_of, call_program, construct_of, is_counted, method_of, method_program, noting}
+use Rattle.es_serve.specs.Serve.{call_of, call_program, construct_of, define_of, is_counted, method_of, method_program, noting}
 use Rattle.dispatcher.specs.declared.table.Provider.TheVariants.{Core, Plain}
-use Rattle.dispatcher.specs.Table.{begin_program, call_service, callee_service, construct_service, method_service, noted_at, noted_for, service_program, TableServes}
+use Rattle.dispatcher.specs.Table.{begin_program, call_service, callee_service, construct_service, define_service, method_service, noted_at, noted_for, service_program, TableServes}
 
 -- ---- the note of a site
 
@@ -80,6 +80,17 @@ method-served S n script (kind_of.Wrapper v) q w = refl
 method-served S n script (kind_of.Arguments cells) q w = refl
 method-served S n script kind_of.Error q w = refl
 method-served S n script (kind_of.Proxy target handler callable constructor) q w = refl
+
+define-served : (S : Server) (n : ℕ) (script : Tree) (k : ObjectKind) (q : Request) (w : World) → run S (define_of k q) n w ≡ run S (service_program script (define_service k) q) n w
+define-served S n script kind_of.Ordinary q w = refl
+define-served S n script (kind_of.Function function constructor strict) q w = refl
+define-served S n script (kind_of.Builtin row constructor proxy) q w = refl
+define-served S n script kind_of.Array q w = refl
+define-served S n script (kind_of.Text t) q w = refl
+define-served S n script (kind_of.Wrapper v) q w = refl
+define-served S n script (kind_of.Arguments cells) q w = refl
+define-served S n script kind_of.Error q w = refl
+define-served S n script (kind_of.Proxy target handler callable constructor) q w = refl
 
 -- ---- calls
 
@@ -170,7 +181,7 @@ construct-served S n script (kind_of.Proxy t handler callable false) f arguments
 
 pub table : TableServes
 table S n (GetOwn o k) w = method-served S n w.script (kind w.lists o) (GetOwn o k) w
-table S n (Define o k wanted) w = method-served S n w.script (kind w.lists o) (Define o k wanted) w
+table S n (Define o k wanted) w = define-served S n w.script (kind w.lists o) (Define o k wanted) w
 table S n (Has o k) w = method-served S n w.script (kind w.lists o) (Has o k) w
 table S n (Read o k receiver site) w =
     let v : World = noted_at site Reads o k receiver w in

@@ -36,6 +36,11 @@ method_service (kind_of.Arguments cells) = Begins Unwritten
 method_service (kind_of.Proxy target handler callable constructor) = Enters Unwritten
 method_service other = Begins Ordinary
 
+-- [[DefineOwnProperty]], in the same way
+abbrev pub define_service : ObjectKind → Service
+define_service kind_of.Array = Begins Unwritten
+define_service other = method_service other
+
 -- where the algorithm of a built-in function stands, by its row
 abbrev pub builtin_provider : ℕ → Provider
 builtin_provider row = if nat_eq row print_row then Plain else Core
@@ -60,7 +65,7 @@ construct_service other = Begins Plain
 
 abbrev pub served_by : Lists → Request → Service
 served_by l (GetOwn o k) = method_service (kind l o)
-served_by l (Define o k wanted) = method_service (kind l o)
+served_by l (Define o k wanted) = define_service (kind l o)
 served_by l (Has o k) = method_service (kind l o)
 served_by l (Read o k receiver site) = method_service (kind l o)
 served_by l (Write o k v receiver site) = method_service (kind l o)

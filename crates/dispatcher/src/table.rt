@@ -3,7 +3,7 @@
 ghost use Rattle.std.specs.Prelude.{◌≡◌};
 ghost use Rattle.es_model.specs.World.{World};
 ghost use Rattle.object_heap.specs.Stands.{StandsFor};
-ghost use Rattle.dispatcher.specs.Table.{builtin_provider, call_service, callee_service, construct_service, method_service, served_by};
+ghost use Rattle.dispatcher.specs.Table.{builtin_provider, call_service, callee_service, construct_service, define_service, method_service, served_by};
 
 use es_model::{Intrinsic, ObjectKind, Request};
 use es_tree::FunctionNo;
@@ -49,6 +49,23 @@ fn method_service(kind: &ObjectKind) -> Service
         | ObjectKind::Error => Service::Begins(Provider::Ordinary),
         ObjectKind::Arguments { .. } => Service::Begins(Provider::Unwritten),
         ObjectKind::Proxy { .. } => Service::Enters(Provider::Unwritten),
+    }
+}
+
+/// [[DefineOwnProperty]] of an Array object is its own (10.4.2.1).
+fn define_service(kind: &ObjectKind) -> Service
+    ensures { result ≡ define_service kind.now }
+{
+    match kind {
+        ObjectKind::Array => Service::Begins(Provider::Unwritten),
+        ObjectKind::Ordinary
+        | ObjectKind::Function { .. }
+        | ObjectKind::Builtin { .. }
+        | ObjectKind::Text(_)
+        | ObjectKind::Wrapper(_)
+        | ObjectKind::Arguments { .. }
+        | ObjectKind::Error
+        | ObjectKind::Proxy { .. } => method_service(kind),
     }
 }
 
@@ -142,7 +159,6 @@ pub(crate) fn served_by(heap: &Heap, request: &Request) -> Service
 {
     match request {
         Request::GetOwn { object, .. }
-        | Request::Define { object, .. }
         | Request::Has { object, .. }
         | Request::Read { object, .. }
         | Request::Write { object, .. }
@@ -152,6 +168,7 @@ pub(crate) fn served_by(heap: &Heap, request: &Request) -> Service
         | Request::SetProto { object, .. }
         | Request::Extensible { object }
         | Request::Prevent { object } => method_service(heap.kind(*object)),
+        Request::Define { object, .. } => define_service(heap.kind(*object)),
         Request::Call { function, .. } => callee_service(heap, *function),
         Request::Construct { function, .. } => construct_service(heap.kind(*function)),
         Request::Work { .. } => Service::Begins(Provider::Plain),

@@ -42,7 +42,7 @@ text-got l l' g i b = g.texts i (get_or l.texts i []) (slice_get-get_or l.texts 
 pub text-later : (l l' : Lists) → Grows l l' → (t : TextId) → IsText l t → IsText l' t
 text-later l l' g t b = slice_get_within l'.texts t.0 (get_or l.texts t.0 []) (text-got l l' g t.0 b)
 
-units-later : (l l' : Lists) → Grows l l' → (i : ℕ) → i < length l.texts → text_at l'.texts i ≡ text_at l.texts i
+pub units-later : (l l' : Lists) → Grows l l' → (i : ℕ) → i < length l.texts → text_at l'.texts i ≡ text_at l.texts i
 units-later l l' g i b = get_or_from_slice_get l'.texts i (get_or l.texts i []) [] (text-got l l' g i b)
 
 pub object-later : (l l' : Lists) → Grows l l' → (o : ObjectId) → IsObject l o → IsObject l' o

@@ -14,11 +14,13 @@ pub mod Keeping
 pub mod Abrupt
 pub mod TextPlaces
 pub mod KnownLater
+pub mod ArrayLengths
 pub mod Belonging
 pub mod SoundReads
 pub mod SoundPut
 pub mod SoundProperties
 pub mod SoundNew
+pub mod SoundArrays
 pub mod SoundChanges
 pub mod Cycles
 pub mod SoundCycles

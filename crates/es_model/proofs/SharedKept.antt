@@ -15,10 +15,7 @@ use Rattle.property_keys.specs.Keys.{array_index_of}
 use Rattle.property_keys.specs.Numbers.{natural_of}
 use Rattle.property_keys.specs.Wholes.{IsWhole, most_whole}
 use Rattle.property_keys.proofs.ArrayIndices.{array_index_of-no_number}
-use Rattle.es_model.specs.declared.callables.Method.{Method}
 use Rattle.es_model.specs.declared.callables.Method.TheVariants as method
-use Rattle.es_model.specs.declared.answers.Reply.{Reply}
-use Rattle.es_model.specs.declared.answers.Reply.TheVariants as reply
 use Rattle.es_model.specs.declared.kinds.ErrorKind.TheVariants as error
 use Rattle.es_model.specs.declared.kinds.ObjectKind.TheVariants as kind_of
 use Rattle.es_model.specs.declared.intrinsics.Class.{Class}
@@ -27,19 +24,20 @@ use Rattle.es_model.specs.declared.intrinsics.Intrinsic.TheVariants as intrinsic
 use Rattle.es_model.specs.declared.requests.Operation.TheVariants as operation
 use Rattle.es_model.specs.declared.requests.Request.{Request}
 use Rattle.es_model.specs.declared.requests.Request.TheVariants.{Has, Read, Work}
-use Rattle.es_model.specs.Completions.{Completion, Normal, Break, Continue, Return, Throw}
+use Rattle.es_model.specs.Completions.{Completion}
 use Rattle.es_model.specs.Objects.{new_object_of}
 use Rattle.es_model.specs.World.{Lists, World, kind, new_object, number_of, units_of}
+use Rattle.es_model.specs.Grows.{Grows}
 use Rattle.es_model.specs.Changes.{Change, Defining, Interning, Making, changed, made, with_objects}
-use Rattle.es_model.specs.Program.{Program, Task, Of, look}
+use Rattle.es_model.specs.Program.{Program, Task, look}
 use Rattle.es_model.specs.Events.{OfWrapper}
 use Rattle.es_model.specs.Known.{IsObject, IsText, IfThere, IsKnown, IsKnownKey, IsKnownDescriptor}
-use Rattle.es_model.specs.Fits.{Fits, FitsRequest, IsKnownReply, IsWholeValue}
+use Rattle.es_model.specs.Fits.{Fits}
 use Rattle.es_model.specs.Sound.{IsShort, IsSound}
 use Rattle.es_model.specs.Kept.{FitsTask, IsKept, IsLater}
 use Rattle.es_model.specs.programs.Abrupt.{value_in, flag_in, proto_in, then_value, then_flag, then_proto}
 use Rattle.es_model.specs.programs.Converting.{number, to_number, to_integer, with_whole, then_whole, length_got, not_an_object, proto_of_class, make_wrapper, fixed, make_text_object, to_object}
-use Rattle.es_model.specs.programs.Errors.{throw_error, not_a_function}
+use Rattle.es_model.specs.programs.Errors.{not_a_function}
 use Rattle.es_model.specs.programs.Methods.{get_named, has_named, method_in, with_method, then_method}
 use Rattle.es_model.specs.programs.Testing.{is_callable_kind}
 use Rattle.es_model.proofs.Abrupt.{answer-kept, value-there, proto-there}
@@ -47,6 +45,8 @@ use Rattle.es_model.proofs.Growing.{grows-changed}
 use Rattle.es_model.proofs.Keeping.{later_none, later_then}
 use Rattle.es_model.proofs.KnownLater.{object-later}
 use Rattle.es_model.proofs.Rests.{leaves-changed}
+use Rattle.es_model.proofs.ArrayLengths.{IsNoArray, no_array-later, no_array-leaves}
+use Rattle.es_model.proofs.SoundArrays.{made-no_array}
 use Rattle.es_model.proofs.SoundChanges.{sound-defining, sound-interning, sound-making}
 use Rattle.es_model.proofs.SoundErrors.{error-kept, interned-known, interned-names, noted-objects, throw-fits}
 
@@ -169,12 +169,6 @@ wrapper-there w v p =
     let n = length-append w.lists.objects (new_object_of (kind_of.Wrapper v) p ∷ []) in
     let same = noted-objects (with_objects w (w.lists.objects ++ new_object_of (kind_of.Wrapper v) p ∷ [])) p in omega arith
 
-text-there : (w : World) (t : TextId) (p : Option ObjectId) → IsObject (changed (Making (kind_of.Text t) OfWrapper p) w).lists (new_object w.lists)
-unfolding changed made
-text-there w t p =
-    let n = length-append w.lists.objects (new_object_of (kind_of.Text t) p ∷ []) in
-    let same = noted-objects (with_objects w (w.lists.objects ++ new_object_of (kind_of.Text t) p ∷ [])) p in omega arith
-
 -- what follows, with the new object
 abbrev OnObject : Task → World → (ObjectId → Program) → Type 0
 OnObject t w next = (o : ObjectId) (u : World) → IsSound u → IsLater w u → IsObject u.lists o → IsKept (FitsTask t) (next o) u
@@ -182,7 +176,7 @@ OnObject t w next = (o : ObjectId) (u : World) → IsSound u → IsLater w u →
 wrapper-kept : (t : Task) (w : World) (c : Class) (v : Value) (next : ObjectId → Program) → IsSound w → IsKnown w.lists v → OnObject t w next → IsKept (FitsTask t) (make_wrapper c v next) w
 wrapper-kept t w c v next s known h =
     let op : Change = Making (kind_of.Wrapper v) OfWrapper (proto_of_class c) in
-    h (new_object w.lists) (changed op w) (sound-making w (kind_of.Wrapper v) OfWrapper (proto_of_class c) s known tt (s.intact.start (intrinsic.Prototype c)).0) (later-changed op w) (wrapper-there w v (proto_of_class c))
+    h (new_object w.lists) (changed op w) (sound-making w (kind_of.Wrapper v) OfWrapper (proto_of_class c) s known tt (s.intact.start (intrinsic.Prototype c)).0 refl) (later-changed op w) (wrapper-there w v (proto_of_class c))
 
 short-got : (ts : List (List ℕ)) (i : ℕ) → AllByRecursion IsShort ts → IsShort (get_or ts i [])
 short-got [] i h = omega arith
@@ -203,12 +197,13 @@ text_object-kept t w x next s known h =
     let key : PropKey = Name (number_of a.lists name) in
     let d : Change = Defining o key (fixed n) in
     let short : IsShort (units_of w.lists x) = short-got w.lists.texts x.0 s.intact.lengths in
-    let sa : IsSound a = sound-making w (kind_of.Text x) OfWrapper (proto_of_class class.String) s known tt (s.intact.start (intrinsic.Prototype class.String)).0 in
+    let sa : IsSound a = sound-making w (kind_of.Text x) OfWrapper (proto_of_class class.String) s known tt (s.intact.start (intrinsic.Prototype class.String)).0 refl in
     let sb : IsSound b = sound-interning a name sa (omega arith) in
-    let there : IsObject b.lists o = object-later a.lists b.lists (grows-changed (Interning name) a) o (text-there w x (proto_of_class class.String)) in
-    h o (changed d b) (sound-defining b o key (fixed n) sb there (name-known a name refl) (fixed-known b.lists n (whole-of (length (units_of w.lists x)) (omega arith))))
+    let g : Grows a.lists b.lists = grows-changed (Interning name) a in
+    let other : IsNoArray b.lists o = no_array-later a.lists b.lists g o (made-no_array w (kind_of.Text x) OfWrapper (proto_of_class class.String) refl) in
+    h o (changed d b) (sound-defining b o key (fixed n) sb other.there (name-known a name refl) (fixed-known b.lists n (whole-of (length (units_of w.lists x)) (omega arith))) (no_array-leaves b.lists o key (Some n) other.other))
     (later_then w a (changed d b) (later-changed make_it w) (later_then a b (changed d b) (later-changed (Interning name) a) (later-changed d b)))
-    (object-later b.lists (changed d b).lists (grows-changed d b) o there)
+    (object-later b.lists (changed d b).lists (grows-changed d b) o other.there)
 
 pub not_object-kept : (t : Task) (w : World) → IsSound w → IsKept (FitsTask t) not_an_object w
 not_object-kept t w s = error-kept t w error.TypeError (codes "not an object") s (omega arith)

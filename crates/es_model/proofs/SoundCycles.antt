@@ -44,7 +44,7 @@ unfolding with_proto
 sound-with_proto w o v s there known plain free =
     let x : Object = relinked w.lists o v in
     sound-noted (with_object w o x) _ (sound-put w o x s (grows-put w o x refl) (never_returns-relinked w.lists (with_link w.lists o v) o v (is_relinked w.lists o v there plain) free s.intact.chains)
-    (λ here. let old = s.intact.objects o here in (record { slots = old.slots; proto = known; properties = old.properties; distinct = old.distinct }, s.kinds o here)))
+    (λ here. let old = s.intact.objects o here in (record { slots = old.slots; proto = known; properties = old.properties; distinct = old.distinct }, s.kinds o here, s.arrays o here)))
 
 -- a prototype from which no link leads back to the object
 pub sound-setting_proto : (w : World) (o : ObjectId) (v : Option ObjectId) → IsSound w → IsObject w.lists o → IfThere (IsObject w.lists) v → is_proxy (kind w.lists o) ≡ false → IsFree w.lists o v → IsSound (changed (SettingProto o v) w)

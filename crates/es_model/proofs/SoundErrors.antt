@@ -29,6 +29,8 @@ use Rattle.es_model.specs.programs.Errors.{hidden, throw_error, error_proto}
 use Rattle.es_model.proofs.TextPlaces.{place-interned}
 use Rattle.es_model.proofs.Growing.{grows-changed}
 use Rattle.es_model.proofs.KnownLater.{key-later, object-later, text-later}
+use Rattle.es_model.proofs.ArrayLengths.{no_array-leaves}
+use Rattle.es_model.proofs.SoundArrays.{made-no_array}
 use Rattle.es_model.proofs.SoundChanges.{sound-defining, sound-making, sound-interning}
 
 pub kept-if : (P : Lists → Completion → Type 0) (w : World) (b : Bool) (p q : Program) → IsKept P p w → IsKept P q w → IsKept P (cond b p q) w
@@ -80,13 +82,13 @@ error-kept task w k text s short =
     let e : ObjectId = new_object b.lists in
     let sa : IsSound a = sound-interning w text s short in
     let sb : IsSound b = sound-interning a (units_of_start start_text.Message) sa (omega arith) in
-    let sc : IsSound c = sound-making b kind_of.Error OfError (error_proto k) sb tt tt (sb.intact.start (intrinsic.Prototype (class.Error k))).0 in
+    let sc : IsSound c = sound-making b kind_of.Error OfError (error_proto k) sb tt tt (sb.intact.start (intrinsic.Prototype (class.Error k))).0 refl in
     let bc = grows-changed (Making kind_of.Error OfError (error_proto k)) b in
     let t-known : IsText c.lists t = text-later b.lists c.lists bc t (text-later a.lists b.lists (grows-changed (Interning (units_of_start start_text.Message)) a) t (interned-known w text)) in
     let key : IsKnownKey b.lists (Name name) = ((interned-known a (units_of_start start_text.Message), ap array_index_of (interned-names a (units_of_start start_text.Message)) ∙ message-is_no_index), tt) in
     let there : IsObject c.lists e = made-there b k in
     let d : Descriptor = hidden (value.Text t) in (
-      sound-defining c e (Name name) d sc there (key-later b.lists c.lists bc (Name name) key) (hidden-known c.lists t t-known),
+      sound-defining c e (Name name) d sc there (key-later b.lists c.lists bc (Name name) key) (hidden-known c.lists t t-known) (no_array-leaves c.lists e (Name name) d.value (made-no_array b kind_of.Error OfError (error_proto k) refl).other),
       throw-fits task (changed (Defining e (Name name) d) c).lists (value.Object e)
           (object-later c.lists (changed (Defining e (Name name) d) c).lists (grows-changed (Defining e (Name name) d) c) e there),
     )

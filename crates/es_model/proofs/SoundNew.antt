@@ -1,22 +1,23 @@
 -- A new object and a new text keep a world sound.
-use Rattle.std.proofs.Common.{◌≡◌, ◌≢◌, ◌<◌, ◌||◌, ℕ, zero, suc, Bool, true, false, cond, Option, Some, None, List, [], ◌∷◌, ◌++◌, length, get_or, refl, sym, subst, ap, ◌∙◌, arith}
+use Rattle.std.proofs.Common.{◌≡◌, ◌≢◌, ◌<◌, ℕ, zero, suc, Bool, true, false, cond, true≢false, IsTrue, Option, Some, None, List, [], ◌∷◌, ◌++◌, length, get_or, refl, sym, subst, ap, ◌∙◌, arith}
 use Rattle.std.specs.Prelude.{option_and_then}
 use Rattle.std.specs.List.{list_any}
 use Rattle.std.specs.Str.{bytes_eq}
 use Rattle.std.proofs.Math.ListN.{get_or-append}
 use Rattle.std.proofs.lemmas.List.{length-append}
-use Rattle.std.proofs.lemmas.Slice.Eq.{bytes_eq-Decides}
 use Rattle.property_keys.specs.declared.identifiers.ObjectId.{ObjectId}
 use Rattle.property_keys.specs.Texts.{HasOneEach, interned, text_at}
 use Rattle.es_model.specs.declared.kinds.ObjectKind.{ObjectKind}
 use Rattle.es_tree.specs.Tree.{Tree}
-use Rattle.es_model.specs.Objects.{Object, object_at, no_object, is_proxy, new_object_of}
+use Rattle.es_model.specs.Objects.{Object, object_at, no_object, is_array, is_proxy, new_object_of}
 use Rattle.es_model.specs.World.{Lists, World, proto, kind, new_object}
 use Rattle.es_model.specs.Changes.{with_objects}
 use Rattle.es_model.specs.Grows.{Grows}
 use Rattle.es_model.specs.Known.{IsObject, IsText, IfThere, IsKnown}
-use Rattle.es_model.specs.Sound.{IsKnownKind, IsIntactObject, IsRightKind, IsIntact, IsSound, link, up, NeverReturns}
+use Rattle.es_model.specs.Sound.{IsKnownKind, IsIntactObject, IsRightKind, IsIntact, IsSound, length_key, link, up, NeverReturns}
 use Rattle.es_model.proofs.Growing.{grows-last}
+use Rattle.es_model.proofs.ArrayLengths.{LengthIn, key-same}
+use Rattle.es_model.proofs.TextPlaces.{absent}
 use Rattle.es_model.proofs.KnownLater.{all-map, there-map, known-later, text-later, intact_object-later, right-later, start-later}
 use Rattle.es_model.proofs.SoundPut.{link_of}
 
@@ -27,7 +28,7 @@ split R zero (suc n) b f g = f (omega arith)
 split R (suc i) zero b f g = absurd (omega arith)
 split R (suc i) (suc n) b f g = split R i n (omega arith) (λ c. f (omega arith)) (λ e. g (ap suc e))
 
-at-end : {X : Type 0} (xs : List X) (y d : X) → get_or (xs ++ y ∷ []) (length xs) d ≡ y
+pub at-end : {X : Type 0} (xs : List X) (y d : X) → get_or (xs ++ y ∷ []) (length xs) d ≡ y
 at-end [] y d = refl
 at-end (x ∷ xs) y d = at-end xs y d
 
@@ -79,8 +80,14 @@ new-right : (script : Tree) (l : Lists) (o : ObjectId) (k : ObjectKind) (p : Opt
 new-right script l o k p true h = h
 new-right script l o k p false h = h
 
-sound-last : (w : World) (x : Object) → IsSound w → IsIntactObject w.lists x → IsRightKind w.script w.lists (new_object w.lists) x.kind → IsSound (with_objects w (w.lists.objects ++ x ∷ []))
-sound-last w x s new right =
+pub new-kind : (k : ObjectKind) (p : Option ObjectId) (b : Bool) →
+    (cond {A = Object} b (record { kind = k; proto = None; extensible = false; properties = [] }) (record { kind = k; proto = p; extensible = true; properties = [] })).kind ≡ k
+new-kind k p true = refl
+new-kind k p false = refl
+
+pub sound-last : (w : World) (x : Object) → IsSound w → IsIntactObject w.lists x → IsRightKind w.script w.lists (new_object w.lists) x.kind → (IsTrue (is_array x.kind) → LengthIn (length_key w.lists) x.properties) →
+    IsSound (with_objects w (w.lists.objects ++ x ∷ []))
+sound-last w x s new right fits =
     let l : Lists = w.lists in
     let l' : Lists = (with_objects w (w.lists.objects ++ x ∷ [])).lists in
     let g : Grows l l' = grows-last w x in
@@ -103,26 +110,17 @@ sound-last w x s new right =
             i.chains;
       };
       kinds = λ p there. right-later w.script l l' g p (kind l' p) (at-append (λ n y. IsRightKind w.script l (record { 0 = n }) y.kind) l.objects x p.0 (omega arith) (λ b. s.kinds p b) right);
+      arrays = λ p there array. subst (λ key. LengthIn key (object_at l'.objects p).properties) (sym (key-same l l' refl))
+          (at-append (λ n y. IsTrue (is_array y.kind) → LengthIn (length_key l) y.properties) l.objects x p.0 (omega arith) (λ b. s.arrays p b) fits array);
     }
 
-pub sound-new : (w : World) (k : ObjectKind) (p : Option ObjectId) → IsSound w → IsKnownKind w.lists k → IsRightKind w.script w.lists (new_object w.lists) k → IfThere (IsObject w.lists) p →
+pub sound-new : (w : World) (k : ObjectKind) (p : Option ObjectId) → IsSound w → IsKnownKind w.lists k → IsRightKind w.script w.lists (new_object w.lists) k → IfThere (IsObject w.lists) p → is_array k ≡ false →
     IsSound (with_objects w (w.lists.objects ++ new_object_of k p ∷ []))
-sound-new w k p s h right h' = sound-last w (new_object_of k p) s (new-intact w.lists k p (is_proxy k) h h') (new-right w.script w.lists (new_object w.lists) k p (is_proxy k) right)
+sound-new w k p s h right h' other =
+    sound-last w (new_object_of k p) s (new-intact w.lists k p (is_proxy k) h h') (new-right w.script w.lists (new_object w.lists) k p (is_proxy k) right)
+    (λ array. absurd (true≢false (sym array ∙ ap is_array (new-kind k p (is_proxy k)) ∙ other)))
 
 -- ---- a new text
-
-absent-step : (b : Bool) (t text : List ℕ) (ts : List (List ℕ)) → bytes_eq text t ≡ b → (b || list_any (bytes_eq text) ts) ≡ false → (bytes_eq text t ≡ false) × (list_any (bytes_eq text) ts ≡ false)
-absent-step true t text ts e h = absurd (let no : true ≡ false = h in cc)
-absent-step false t text ts e h = (e, h)
-
-absent : (ts : List (List ℕ)) (text : List ℕ) → list_any (bytes_eq text) ts ≡ false → (i : ℕ) → i < length ts → text_at ts i ≢ text
-absent [] text h i b e = absurd (omega arith)
-absent (t ∷ ts) text h zero b e =
-    let k = absent-step (bytes_eq text t) t text ts refl h in
-    absurd (let a = k.0 in let c = (bytes_eq-Decides text t).1 (sym e) in cc)
-absent (t ∷ ts) text h (suc i) b e =
-    let k = absent-step (bytes_eq text t) t text ts refl h in
-    absent ts text k.1 i (omega arith) e
 
 one-append : (ts : List (List ℕ)) (text : List ℕ) → ((i : ℕ) → i < length ts → text_at ts i ≢ text) → HasOneEach ts → HasOneEach (ts ++ text ∷ [])
 one-append ts text gone one i j bi bj e =

@@ -105,7 +105,7 @@ stored-known l d v flags h known = unwrap-known l d.value v h.value known
 abbrev none_set : Attributes
 none_set = record { writable = false; enumerable = false; configurable = false }
 
-completed-known : (l : Lists) (d : Descriptor) → IsKnownDescriptor l d → IsKnownComplete l (completed d)
+pub completed-known : (l : Lists) (d : Descriptor) → IsKnownDescriptor l d → IsKnownComplete l (completed d)
 completed-known l d h =
     complete-cond l (is_accessor_descriptor d) (accessor_or d None None false false) (stored_or d value.Undefined none_set)
     (accessor-known l d None None false false h tt tt) (stored-known l d value.Undefined none_set h tt)

@@ -1,17 +1,18 @@
 -- An object replaced by another, and other lists than the objects: what stays sound.
-use Rattle.std.proofs.Common.{◌≡◌, ◌<◌, ℕ, zero, suc, cond, Option, Some, None, List, [], ◌∷◌, length, get_or, refl, sym, subst, ap, ◌∙◌, arith}
+use Rattle.std.proofs.Common.{◌≡◌, ◌<◌, ℕ, zero, suc, cond, IsTrue, Option, Some, None, List, [], ◌∷◌, length, get_or, refl, sym, subst, ap, ◌∙◌, arith}
 use Rattle.std.specs.Prelude.{option_and_then}
 use Rattle.std.proofs.Math.ListN.{set}
 use Rattle.std.proofs.lemmas.List.{length-set}
 use Rattle.std.specs.List.{AllByRecursion}
 use Rattle.property_keys.specs.declared.identifiers.ObjectId.{ObjectId}
 use Rattle.property_keys.specs.Texts.{HasOneEach}
-use Rattle.es_model.specs.Objects.{Object, object_at, no_object, is_proxy}
+use Rattle.es_model.specs.Objects.{Object, object_at, no_object, is_array, is_proxy}
 use Rattle.es_model.specs.World.{Lists, World, kind}
 use Rattle.es_model.specs.Changes.{with_object}
 use Rattle.es_model.specs.Grows.{Grows}
 use Rattle.es_model.specs.Known.{IsObject, IsText, IfThere, IsKnown}
-use Rattle.es_model.specs.Sound.{IsIntactObject, IsRightKind, IsShort, IsIntact, IsSound, link, up, NeverReturns}
+use Rattle.es_model.specs.Sound.{IsIntactObject, IsRightKind, IsShort, IsIntact, IsSound, length_key, link, up, NeverReturns}
+use Rattle.es_model.proofs.ArrayLengths.{LengthIn, key-same, length-later}
 use Rattle.es_model.proofs.KnownLater.{all-map, there-map, known-later, text-later, intact_object-later, right-later, start-later}
 
 pub at-put : (P : ℕ → Object → Type 0) (os : List Object) (i j : ℕ) (x : Object) → (i < length os → P i x) → P j (get_or os j no_object) → P j (get_or (set os i x) j no_object)
@@ -49,7 +50,7 @@ chains-put w o x e h = chains-same w.lists (with_object w o x).lists (length-set
 
 -- an object is replaced by one that fits in its place
 pub sound-put : (w : World) (o : ObjectId) (x : Object) → IsSound w → Grows w.lists (with_object w o x).lists → NeverReturns (with_object w o x).lists →
-    (IsObject w.lists o → IsIntactObject w.lists x × IsRightKind w.script w.lists o x.kind) → IsSound (with_object w o x)
+    (IsObject w.lists o → IsIntactObject w.lists x × IsRightKind w.script w.lists o x.kind × (IsTrue (is_array x.kind) → LengthIn (length_key w.lists) x.properties)) → IsSound (with_object w o x)
 sound-put w o x s g chains fits =
     let l : Lists = w.lists in
     let l' : Lists = (with_object w o x).lists in
@@ -67,6 +68,8 @@ sound-put w o x s g chains fits =
         chains = chains;
       };
       kinds = λ p there. right-later w.script l l' g p (kind l' p) (at-put (λ n y. IsRightKind w.script l (record { 0 = n }) y.kind) l.objects o.0 p.0 x (λ b. (fits b).1) (s.kinds p (omega arith)));
+      arrays = λ p there array. subst (λ key. LengthIn key (object_at l'.objects p).properties) (sym (key-same l l' refl))
+          (at-put (λ n y. IsTrue (is_array y.kind) → LengthIn (length_key l) y.properties) l.objects o.0 p.0 x (λ b. (fits b).2) (s.arrays p (omega arith)) array);
     }
 
 -- ---- lists other than the objects
@@ -91,4 +94,6 @@ sound-others w v s g e os cells descriptions texts lengths =
       kinds = λ p there. subst (λ script. IsRightKind script v.lists p (kind v.lists p)) (sym e)
           (subst (λ (xs : List Object). IsRightKind w.script v.lists p (object_at xs p).kind) (sym os)
           (right-later w.script w.lists v.lists g p (kind w.lists p) (s.kinds p (there-before p there))));
+      arrays = λ p there. subst (λ (xs : List Object). IsTrue (is_array (object_at xs p).kind) → LengthIn (length_key v.lists) (object_at xs p).properties) (sym os)
+          (λ array. length-later w.lists v.lists g texts (object_at w.lists.objects p).properties (i.objects p (there-before p there)).properties (s.arrays p (there-before p there) array));
     }

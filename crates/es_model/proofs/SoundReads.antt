@@ -27,4 +27,4 @@ proto-known w o sound there = (sound.intact.objects o there).proto
 
 pub sound-charged : (w : World) (n : ℕ) → IsSound w → IsSound (charged w n)
 unfolding charged
-sound-charged w n s = record { intact = s.intact; kinds = s.kinds }
+sound-charged w n s = record { intact = s.intact; kinds = s.kinds; arrays = s.arrays }

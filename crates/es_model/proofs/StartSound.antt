@@ -1,5 +1,5 @@
 -- The start world is sound. What is a test of finitely many cases is computed; so a start table with more properties needs no line here.
-use Rattle.std.proofs.Common.{◌≡◌, ◌<◌, ℕ, zero, suc, Bool, true, false, Option, Some, None, List, [], ◌∷◌, length, get_or, refl, sym, subst, ap, ◌∙◌, arith, true≢false, ◌&&◌, is_none, option_and_then, nat_eq}
+use Rattle.std.proofs.Common.{◌≡◌, ◌<◌, ℕ, zero, suc, Bool, true, false, Option, Some, None, List, [], ◌∷◌, length, get_or, refl, sym, subst, ap, ◌∙◌, arith, true≢false, ◌&&◌, ◌||◌, IsTrue, is_none, option_and_then, nat_eq}
 use Rattle.std.specs.Prelude.{ℤ, pos, negsuc, not, nat_lt, nat_le}
 use Rattle.std.specs.Bool.{beq}
 use Rattle.property_keys.specs.Numbers.{natural_of}
@@ -26,8 +26,8 @@ use Rattle.es_model.specs.declared.intrinsics.Class.TheVariants as class
 use Rattle.es_model.specs.declared.intrinsics.Intrinsic.{Intrinsic}
 use Rattle.es_model.specs.declared.intrinsics.Intrinsic.TheVariants as intrinsic
 use Rattle.es_tree.specs.Tree.{Tree, empty_tree}
-use Rattle.es_model.specs.Objects.{Object, object_at, no_object, same_key}
-use Rattle.es_model.specs.World.{Lists, kind, text_place}
+use Rattle.es_model.specs.Objects.{Object, object_at, is_array, no_object, same_key}
+use Rattle.es_model.specs.World.{Lists, kind, number_of, own, text_place}
 use Rattle.es_model.specs.Builtins.{BuiltinFacts, builtin_facts}
 use Rattle.es_model.specs.StartObjects.{object_of, start_number}
 use Rattle.es_model.specs.StartTexts.{start_texts, start_symbols}
@@ -36,7 +36,7 @@ use Rattle.es_model.specs.StartWorld.{start_lists, start_object}
 use Rattle.es_model.specs.Grows.{fixed_kind}
 use Rattle.es_model.specs.Known.{IsObject, IsText, IfThere, IsKnown, IsKnownKey, IsKnownComplete, IsKnownProperty}
 use Rattle.property_keys.specs.Limits.{most_units}
-use Rattle.es_model.specs.Sound.{IsKnownKind, AreDistinct, IsIntactObject, link, up, NeverReturns, IsShort, IsIntact, HasItsProxy, HasRow, IsRightKind}
+use Rattle.es_model.specs.Sound.{IsKnownKind, AreDistinct, IsIntactObject, link, up, NeverReturns, IsShort, IsIntact, HasItsProxy, HasLength, HasRow, IsLength, IsLengthProperty, IsRightKind, length_key, most_length}
 use Rattle.es_model.specs.StartLaws.{StartIsSound}
 use Rattle.es_model.proofs.SoundNew.{split}
 use Rattle.es_model.proofs.Starting.{objects-are-in-order}
@@ -322,6 +322,37 @@ start-there i =
       ap (λ (x : Object). fixed_kind x.kind) (get_or_from_slice_get start_lists.objects (start_number i) (start_object i) no_object stands) ∙ fixed-start i,
     )
 
+-- ---- %Array.prototype% has its length
+
+abbrev is_length : Value → Bool
+is_length (value.Whole (pos n)) = nat_le n most_length
+is_length other = false
+
+length-tested : (v : Value) → is_length v ≡ true → IsLength v
+length-tested (value.Whole (pos n)) e = leb-true n most_length e
+length-tested v e = absurd (true≢false (sym e))
+
+abbrev is_length_property : Option Complete → Bool
+is_length_property (Some (complete.Stored v flags)) = is_length v && not flags.configurable
+is_length_property other = false
+
+length_property-tested : (c : Option Complete) → is_length_property c ≡ true → IsLengthProperty c
+length_property-tested (Some (complete.Stored v flags)) e =
+    let k = both (is_length v) (not flags.configurable) e in (length-tested v k.0, not-tested flags.configurable k.1)
+length_property-tested c e = absurd (true≢false (sym e))
+
+implied : (a b : Bool) → (not a || b) ≡ true → a ≡ true → b ≡ true
+implied true b e array = e
+implied false b e array = absurd (true≢false (sym array))
+
+start-arrays : (o : ObjectId) → IsObject start_lists o → IsTrue (is_array (kind start_lists o)) → HasLength start_lists o
+unfolding number_of
+start-arrays o there array =
+    let property : Option Complete = own start_lists o (length_key start_lists) in
+    length_property-tested property
+    (implied (is_array (kind start_lists o)) (is_length_property property)
+    (below-at (λ i. not (is_array (kind start_lists (record { 0 = i }))) || is_length_property (own start_lists (record { 0 = i }) (length_key start_lists))) (length start_lists.objects) refl o.0 there) array)
+
 -- ---- the whole
 
 start-intact : IsIntact start_lists
@@ -337,4 +368,4 @@ start-intact = record {
 }
 
 pub start-sound : StartIsSound
-start-sound script turns = record { intact = start-intact; kinds = λ o there. (start-objects script o there).right }
+start-sound script turns = record { intact = start-intact; kinds = λ o there. (start-objects script o there).right; arrays = start-arrays }

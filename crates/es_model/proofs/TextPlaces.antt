@@ -1,5 +1,5 @@
 -- The number that a table gives a text is the text's place, or the table's length. (For the heap's call that interns.)
-use Rattle.std.proofs.Common.{◌≡◌, ℕ, suc, Bool, true, false, ◌||◌, cond, List, [], ◌∷◌, ◌++◌, length, length-append, refl, sym, ap, ◌∙◌, subst, arith}
+use Rattle.std.proofs.Common.{◌≡◌, ◌≢◌, ◌<◌, ℕ, zero, suc, Bool, true, false, ◌||◌, cond, List, [], ◌∷◌, ◌++◌, length, length-append, refl, sym, ap, ◌∙◌, subst, arith}
 use Rattle.std.specs.List.{list_any}
 use Rattle.std.specs.Str.{bytes_eq}
 use Rattle.std.proofs.lemmas.Slice.Eq.{bytes_eq-Decides}
@@ -40,3 +40,34 @@ pub number-place : (old new : List (List ℕ)) (text : List ℕ) (id : ℕ) → 
 number-place old new text id h one =
     let at : IsNumberOf new text (text_place old text) = subst (λ (ts : List (List ℕ)). IsNumberOf ts text (text_place old text)) (sym h.table) (place-interned old text) in
     one id (text_place old text) h.known at.known (h.names ∙ sym at.names)
+
+-- ---- a text that is there
+
+absent-step : (b : Bool) (t text : List ℕ) (ts : List (List ℕ)) → bytes_eq text t ≡ b → (b || list_any (bytes_eq text) ts) ≡ false → (bytes_eq text t ≡ false) × (list_any (bytes_eq text) ts ≡ false)
+absent-step true t text ts e h = absurd (let no : true ≡ false = h in cc)
+absent-step false t text ts e h = (e, h)
+
+pub absent : (ts : List (List ℕ)) (text : List ℕ) → list_any (bytes_eq text) ts ≡ false → (i : ℕ) → i < length ts → text_at ts i ≢ text
+absent [] text h i b e = absurd (omega arith)
+absent (t ∷ ts) text h zero b e =
+    let k = absent-step (bytes_eq text t) t text ts refl h in
+    absurd (let a = k.0 in let c = (bytes_eq-Decides text t).1 (sym e) in cc)
+absent (t ∷ ts) text h (suc i) b e =
+    let k = absent-step (bytes_eq text t) t text ts refl h in
+    absent ts text k.1 i (omega arith) e
+
+-- where its place is below the table's length, it stands there
+at-place : (b : Bool) (ts : List (List ℕ)) (text : List ℕ) → list_any (bytes_eq text) ts ≡ b → text_place ts text < length ts → text_at ts (text_place ts text) ≡ text
+at-place true ts text e h = (place-known ts text e).names
+at-place false ts text e h = absurd (let p = place-unknown ts text e in omega arith)
+
+pub place-names : (ts : List (List ℕ)) (text : List ℕ) → text_place ts text < length ts → text_at ts (text_place ts text) ≡ text
+place-names ts text h = at-place (list_any (bytes_eq text) ts) ts text refl h
+
+-- where it stands is its place
+place-of : (b : Bool) (ts : List (List ℕ)) (text : List ℕ) (i : ℕ) → list_any (bytes_eq text) ts ≡ b → HasOneEach ts → i < length ts → text_at ts i ≡ text → text_place ts text ≡ i
+place-of true ts text i e one h names = let k = place-known ts text e in one (text_place ts text) i k.known h (k.names ∙ sym names)
+place-of false ts text i e one h names = absurd (absent ts text e i h names)
+
+pub place-alone : (ts : List (List ℕ)) (text : List ℕ) (i : ℕ) → HasOneEach ts → i < length ts → text_at ts i ≡ text → text_place ts text ≡ i
+place-alone ts text i one h names = place-of (list_any (bytes_eq text) ts) ts text i refl one h names

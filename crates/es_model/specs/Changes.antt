@@ -14,11 +14,10 @@ use Rattle.descriptors.specs.declared.validation.Verdict.TheVariants as verdict
 use Rattle.descriptors.specs.Validation.{is_configurable}
 use Rattle.es_model.specs.declared.kinds.CellNo.{CellNo}
 use Rattle.es_model.specs.declared.kinds.ObjectKind.{ObjectKind}
-use Rattle.es_model.specs.declared.kinds.ObjectKind.TheVariants as kind_of
 use Rattle.es_tree.specs.declared.numbers.FunctionNo.{FunctionNo}
 use Rattle.es_tree.specs.declared.numbers.SiteId.{SiteId}
 use Rattle.es_model.specs.Objects.{Object, object_at, put_object, with_properties, add_property, replace_property}
-use Rattle.es_model.specs.Objects.{remove_property, new_object_of, is_proxy, revoked_kind, unmapped_kind}
+use Rattle.es_model.specs.Objects.{remove_property, new_object_of, is_array, is_proxy, revoked_kind, unmapped_kind}
 use Rattle.es_model.specs.Events.{Event, Origin, Way, Made, MadePrototype, ProtoSet, Closed, Constructed, Accessed, put_event, removal_event}
 use Rattle.es_model.specs.World.{Lists, World, own, proto, kind, extensible, definition, new_object, walk}
 
@@ -169,10 +168,6 @@ unfoldable pub cell_set : World → CellNo → Value → World
 cell_set w c v = record w { lists = record w.lists { cells = slice_set w.lists.cells c.0 (Some v) } }
 
 -- ---- events alone
-
-abbrev pub is_array : ObjectKind → Bool
-is_array kind_of.Array = true
-is_array other = false
 
 unfoldable pub construction_noted : World → FunctionNo → World
 construction_noted w f = noted w (Constructed f)

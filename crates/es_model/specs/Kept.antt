@@ -5,6 +5,8 @@ use Rattle.std.specs.List.{AllByRecursion}
 use Rattle.es_tree.specs.declared.numbers.FunctionNo.{FunctionNo}
 use Rattle.es_tree.specs.Tree.{Tree, top_names}
 use Rattle.es_model.specs.declared.kinds.CellNo.{CellNo}
+use Rattle.es_model.specs.declared.running.FunctionName.{FunctionName}
+use Rattle.es_model.specs.declared.running.FunctionName.TheVariants.{Text, Key}
 use Rattle.es_model.specs.declared.running.Running.{Running}
 use Rattle.es_model.specs.Completions.{Completion}
 use Rattle.es_model.specs.World.{Lists, World}
@@ -14,7 +16,7 @@ use Rattle.es_model.specs.Program.{Of, Evaluating, Statements, Round, Outcome, E
 use Rattle.es_model.specs.Servers.{Programs}
 use Rattle.es_model.specs.Grows.{Grows}
 use Rattle.es_model.specs.Fits.{Fits, IsKnownCompletion, IsKnownRequest}
-use Rattle.es_model.specs.Known.{IsObject, IsText, IsCell, IfThere, IsKnown}
+use Rattle.es_model.specs.Known.{IsObject, IsText, IsCell, IfThere, IsKnown, IsKnownKey}
 use Rattle.es_model.specs.Sound.{IsIntact, IsSound}
 
 -- a later world of the same run
@@ -34,10 +36,15 @@ pub record IsKnownRunning (script : Tree) (l : Lists) (body : Running) : Type 0 
 abbrev pub AreCells : Lists → List CellNo → Type 0
 AreCells l cells = AllByRecursion (IsCell l) cells
 
+-- the text is there, or the key
+abbrev pub IsKnownName : Lists → FunctionName → Type 0
+IsKnownName l (Text t) = IsText l t
+IsKnownName l (Key prefix k) = IsKnownKey l k
+
 -- A node need not be there: what an absent one comes to is defined too.
 abbrev pub IsKnownTask : Tree → Lists → Task → Type 0
 IsKnownTask script l (Of q) = IsKnownRequest l q
-IsKnownTask script l (Evaluating body cells name n) = IsKnownRunning script l body × AreCells l cells × IfThere (IsText l) name
+IsKnownTask script l (Evaluating body cells name n) = IsKnownRunning script l body × AreCells l cells × IfThere (IsKnownName l) name
 IsKnownTask script l (Statements body cells list i) = IsKnownRunning script l body × AreCells l cells
 IsKnownTask script l (Round body cells n) = IsKnownRunning script l body × AreCells l cells
 

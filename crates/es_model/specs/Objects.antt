@@ -61,6 +61,10 @@ abbrev pub is_proxy : ObjectKind → Bool
 is_proxy (kind_of.Proxy target handler callable constructor) = true
 is_proxy other = false
 
+abbrev pub is_array : ObjectKind → Bool
+is_array kind_of.Array = true
+is_array other = false
+
 -- a new object, without properties. A Proxy has no prototype and no properties of its own (10.5)
 abbrev pub new_object_of : ObjectKind → Option ObjectId → Object
 new_object_of k proto =

@@ -7,6 +7,7 @@ use Rattle.property_keys.specs.declared.keys.PropKey.{PropKey}
 use Rattle.property_keys.specs.declared.values.Value.{Value}
 use Rattle.descriptors.specs.declared.fields.Descriptor.{Descriptor}
 use Rattle.es_tree.specs.declared.numbers.NodeId.{NodeId}
+use Rattle.es_model.specs.declared.running.FunctionName.{FunctionName}
 use Rattle.es_model.specs.declared.running.Part.{Part}
 use Rattle.es_model.specs.declared.running.Running.{Running}
 use Rattle.es_model.specs.declared.kinds.CellNo.{CellNo}
@@ -22,7 +23,7 @@ pub data Task : Type 0 where
   -- a request of an algorithm
   Of : Request → Task
   -- a node of a running body, with the cells of the names that are in force, and the name that an anonymous function gets there
-  Evaluating : Running → List CellNo → Option TextId → NodeId → Task
+  Evaluating : Running → List CellNo → Option FunctionName → NodeId → Task
   -- the statements of a part of the tree from a number on
   Statements : Running → List CellNo → Part → ℕ → Task
   -- a round of the loop that is this node

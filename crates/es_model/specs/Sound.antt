@@ -1,21 +1,29 @@
--- Sound worlds. The point on Array objects, that each has its own `length`, comes with them.
+-- Sound worlds.
 use Rattle.property_keys.specs.Limits.{most_units}
-use Rattle.std.specs.Prelude.{◌^◌, ◌≡◌, ◌≢◌, ◌<◌, ◌≤◌, ⊤, IsTrue, ℕ, zero, suc, Bool, true, false, if◌then◌else◌}
+use Rattle.std.specs.Prelude.{◌-◌, ◌^◌, ◌≡◌, ◌≢◌, ◌<◌, ◌≤◌, ⊤, IsTrue, IsFalse, ℕ, zero, suc, pos, Bool, true, false, if◌then◌else◌}
 use Rattle.std.specs.Prelude.{Option, Some, None, List, [], ◌∷◌, length, slice_get, option_and_then}
 use Rattle.std.specs.List.{AllByRecursion}
 use Rattle.property_keys.specs.declared.identifiers.ObjectId.{ObjectId}
+use Rattle.property_keys.specs.declared.keys.PropKey.{PropKey}
+use Rattle.property_keys.specs.declared.keys.PropKey.TheVariants.{Name}
+use Rattle.property_keys.specs.declared.values.Value.{Value}
+use Rattle.property_keys.specs.declared.values.Value.TheVariants as value
 use Rattle.property_keys.specs.Texts.{HasOneEach}
+use Rattle.descriptors.specs.declared.property.Complete.{Complete}
+use Rattle.descriptors.specs.declared.property.Complete.TheVariants as complete
 use Rattle.es_tree.specs.declared.facts.FunctionFacts.{FunctionFacts}
 use Rattle.es_model.specs.declared.kinds.ObjectKind.{ObjectKind}
 use Rattle.es_model.specs.declared.kinds.ObjectKind.TheVariants as kind_of
 use Rattle.es_model.specs.declared.owned.OwnProperty.{OwnProperty}
 use Rattle.es_model.specs.declared.intrinsics.Intrinsic.{Intrinsic}
+use Rattle.es_model.specs.declared.start_texts.StartText.TheVariants as start_text
 use Rattle.es_model.specs.StartObjects.{object_of}
+use Rattle.es_model.specs.StartTexts.{units_of_start}
 use Rattle.es_model.specs.StartTable.{start_kind}
 use Rattle.es_model.specs.Builtins.{BuiltinFacts, builtin_facts}
 use Rattle.es_tree.specs.Tree.{Tree, top_names}
-use Rattle.es_model.specs.Objects.{Object, object_at, is_proxy, same_key}
-use Rattle.es_model.specs.World.{Lists, World, proto, kind}
+use Rattle.es_model.specs.Objects.{Object, object_at, is_array, is_proxy, same_key}
+use Rattle.es_model.specs.World.{Lists, World, own, proto, kind, number_of}
 use Rattle.es_model.specs.Grows.{fixed_kind}
 use Rattle.es_model.specs.Known.{IsObject, IsText, IsCell, IfThere, IsKnown, IsKnownProperty}
 
@@ -75,7 +83,7 @@ pub record IsIntact (l : Lists) : Type 0 where
   pub start : (i : Intrinsic) → IsObject l (object_of i) × (fixed_kind (kind l (object_of i)) ≡ start_kind i)
   pub chains : NeverReturns l
 
--- ---- the whole
+-- ---- the kinds of objects
 
 -- a function of the script has the flags that the script gives it
 abbrev pub HasFlags : Option FunctionFacts → (constructor strict : Bool) → Type 0
@@ -107,6 +115,32 @@ IsRightKind script l o (kind_of.Builtin row constructor proxy) = HasRow l (built
 IsRightKind script l o (kind_of.Proxy target handler callable constructor) = IfThere (IsOlder o) target
 IsRightKind script l o other = ⊤
 
+-- ---- the length of an Array object (10.4.2)
+
+abbrev pub most_length : ℕ
+most_length = 2 ^ 32 - 1
+
+-- a whole number from 0 to 2 ^ 32 - 1
+abbrev pub IsLength : Value → Type 0
+IsLength (value.Whole (pos n)) = n ≤ most_length
+IsLength other = ⊥
+
+-- a stored property, not configurable, whose value is a length
+abbrev pub IsLengthProperty : Option Complete → Type 0
+IsLengthProperty (Some (complete.Stored v flags)) = IsLength v × IsFalse flags.configurable
+IsLengthProperty other = ⊥
+
+-- the key of the text `length`
+abbrev pub length_key : Lists → PropKey
+length_key l = Name (number_of l (units_of_start start_text.Length))
+
+abbrev pub HasLength : Lists → ObjectId → Type 0
+HasLength l o = IsLengthProperty (own l o (length_key l))
+
+-- ---- the whole
+
 pub record IsSound (w : World) : Type 0 where
   pub intact : IsIntact w.lists
   pub kinds : (o : ObjectId) → IsObject w.lists o → IsRightKind w.script w.lists o (kind w.lists o)
+  -- each Array object has its own `length`
+  pub arrays : (o : ObjectId) → IsObject w.lists o → IsTrue (is_array (kind w.lists o)) → HasLength w.lists o

@@ -30,7 +30,7 @@ pub use lists::{ArgumentCells, KeyList, Values};
 pub use model_laws::{frames_go_on_belonging, outcomes_compose, stages_lead_on};
 pub use owned::OwnProperty;
 pub use requests::{Operation, Request};
-pub use running::{Part, Running};
+pub use running::{FunctionName, NamePrefix, Part, Running};
 pub use start_laws::{
     start_objects_are_in_order, start_symbols_are_in_order, start_texts_are_in_order,
     start_world_is_sound,

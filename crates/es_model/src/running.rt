@@ -1,7 +1,7 @@
 //! The running body, and the parts of a tree that have statements.
 
 use es_tree::{FunctionNo, NodeId};
-use property_keys::{ObjectId, Value};
+use property_keys::{ObjectId, PropKey, TextId, Value};
 
 /// The body that runs: its function, or none where it is the script's own code, and what is the same in all of it.
 ///
@@ -25,4 +25,19 @@ pub enum Part {
     Tried(NodeId),
     Caught(NodeId),
     Finally(NodeId),
+}
+
+/// What stands before the key in the name of a function (ECMA-262, 10.2.9, step 5).
+#[derive(Clone, Copy)]
+pub enum NamePrefix {
+    Nothing,
+    Get,
+    Set,
+}
+
+/// What the name of a function is made of that has none of its own, once the function is there (10.2.9): a text, or a key behind a prefix.
+#[derive(Clone, Copy)]
+pub enum FunctionName {
+    Text(TextId),
+    Key(NamePrefix, PropKey),
 }

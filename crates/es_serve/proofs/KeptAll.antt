@@ -1,10 +1,11 @@
 -- Every algorithm keeps worlds sound.
-use Rattle.std.proofs.Common.{◌≡◌, ◌≤◌, ℕ, true, Option, Some, None, List, length, refl, sym, subst, arith}
+use Rattle.std.proofs.Common.{◌≡◌, ◌≤◌, ℕ, true, Option, Some, None, List, length, refl, sym, subst, ◌∙◌, arith}
 use Rattle.std.specs.Prelude.{codes, nat_eq}
 use Rattle.property_keys.specs.declared.identifiers.ObjectId.{ObjectId}
 use Rattle.property_keys.specs.declared.keys.PropKey.{PropKey}
 use Rattle.property_keys.specs.declared.values.Value.{Value}
 use Rattle.property_keys.specs.declared.values.Value.TheVariants as value
+use Rattle.descriptors.specs.declared.fields.Descriptor.{Descriptor}
 use Rattle.es_tree.specs.declared.numbers.FunctionNo.{FunctionNo}
 use Rattle.es_tree.specs.declared.numbers.SiteId.{SiteId}
 use Rattle.es_tree.specs.Tree.{Tree, top_names}
@@ -29,7 +30,7 @@ use Rattle.es_model.proofs.SoundReads.{sound-charged}
 use Rattle.es_model.proofs.SoundChanges.{sound-accessing}
 use Rattle.es_model.proofs.SoundErrors.{kept-if, error-kept}
 use Rattle.ordinary_object.specs.Ordinary.{ordinary_program}
-use Rattle.ordinary_object.specs.Serving.{is_ordinary}
+use Rattle.ordinary_object.specs.Serving.{has_ordinary_method, is_ordinary}
 use Rattle.ordinary_object.proofs.Kept.{ordinary_kept}
 use Rattle.core_builtins.specs.Core.{row_called, row_constructed}
 use Rattle.core_builtins.proofs.KeptCore.{row_called-kept, row_constructed-kept}
@@ -40,7 +41,7 @@ use Rattle.evaluator.proofs.FunctionsKept.{FitsAs, call_fits, call_program_kept,
 use Rattle.evaluator.proofs.TasksKept.{node-kept, statements-kept, round-kept}
 use Rattle.evaluator.proofs.WordsKept.{later-charged, object-stays, value-stays, values-stay}
 use Rattle.es_serve.specs.Lines.{line_bytes}
-use Rattle.es_serve.specs.Serve.{method_of, method_program, is_counted, noting, builtin_called, call_of, call_program, construct_of, request_program, program_of}
+use Rattle.es_serve.specs.Serve.{method_of, define_of, method_program, is_counted, noting, builtin_called, call_of, call_program, construct_of, request_program, program_of}
 
 -- what is entered goes on after a turn, and below it is the test of the nested calls
 entered-kept : (q : Request) (w : World) (body : Program) → IsSound w → ((v : World) → IsSound v → IsLater w v → IsKept (FitsTask (Of q)) body v) → IsKept (FitsTask (Of q)) (entering body) w
@@ -67,6 +68,19 @@ method-kept q w (kind_of.Wrapper v) s h = h refl
 method-kept q w (kind_of.Arguments cells) s h = (s, tt)
 method-kept q w kind_of.Error s h = h refl
 method-kept q w (kind_of.Proxy target handler callable constructor) s h = entering-kept q w s
+
+-- the same of [[DefineOwnProperty]], which an Array object has of its own
+define-kept : (o : ObjectId) (key : PropKey) (d : Descriptor) (w : World) (k : ObjectKind) → IsSound w →
+    (has_ordinary_method k (Define o key d) ≡ true → IsKept (FitsTask (Of (Define o key d))) (ordinary_program (Define o key d)) w) → IsKept (FitsTask (Of (Define o key d))) (define_of k (Define o key d)) w
+define-kept o key d w kind_of.Ordinary s h = h refl
+define-kept o key d w (kind_of.Function function constructor strict) s h = h refl
+define-kept o key d w (kind_of.Builtin row constructor proxy) s h = h refl
+define-kept o key d w kind_of.Array s h = (s, tt)
+define-kept o key d w (kind_of.Text t) s h = h refl
+define-kept o key d w (kind_of.Wrapper v) s h = h refl
+define-kept o key d w (kind_of.Arguments cells) s h = (s, tt)
+define-kept o key d w kind_of.Error s h = h refl
+define-kept o key d w (kind_of.Proxy target handler callable constructor) s h = entering-kept (Define o key d) w s
 
 noting-kept : (q : Request) (w : World) (site : Option SiteId) (way : Way) (o : ObjectId) (k : PropKey) (r : Value) (p : Program) → IsSound w →
     ((v : World) → IsSound v → Grows w.lists v.lists → IsKept (FitsTask (Of q)) p v) → IsKept (FitsTask (Of q)) (noting site way o k r p) w
@@ -149,28 +163,29 @@ construct_of-kept w (kind_of.Proxy t handler callable constructor) f arguments t
 -- what was printed is no matter of soundness
 sound-printed : (w : World) (bytes : List ℕ) → IsSound w → IsSound (printed_more w bytes)
 unfolding printed_more
-sound-printed w bytes s = record { intact = s.intact; kinds = s.kinds }
+sound-printed w bytes s = record { intact = s.intact; kinds = s.kinds; arrays = s.arrays }
 
-object-kept : (q : Request) (w : World) (o : ObjectId) → IsSound w → IsKnownRequest w.lists q → object_in q ≡ Some o → IsKept (FitsTask (Of q)) (method_program o q) w
-object-kept q w o s h e =
-    method-kept q w (kind w.lists o) s (λ ordinary. ordinary_kept q w s h (subst (λ x. IfThere (λ (a : ObjectId). is_ordinary (kind w.lists a) ≡ true) x) (sym e) ordinary))
+-- of a request whose methods are those of ordinary objects where the object's kind has them
+object-kept : (q : Request) (w : World) (o : ObjectId) → IsSound w → IsKnownRequest w.lists q → object_in q ≡ Some o → ((k : ObjectKind) → has_ordinary_method k q ≡ is_ordinary k) → IsKept (FitsTask (Of q)) (method_program o q) w
+object-kept q w o s h e same =
+    method-kept q w (kind w.lists o) s (λ ordinary. ordinary_kept q w s h (subst (λ x. IfThere (λ (a : ObjectId). has_ordinary_method (kind w.lists a) q ≡ true) x) (sym e) (same (kind w.lists o) ∙ ordinary)))
 
 request-kept : (q : Request) (w : World) → IsSound w → IsKnownRequest w.lists q → IsKept (FitsTask (Of q)) (request_program w.script q) w
-request-kept (GetOwn o k) w s h = object-kept (GetOwn o k) w o s h refl
-request-kept (Define o k d) w s h = object-kept (Define o k d) w o s h refl
-request-kept (Has o k) w s h = object-kept (Has o k) w o s h refl
+request-kept (GetOwn o k) w s h = object-kept (GetOwn o k) w o s h refl (λ k. refl)
+request-kept (Define o k d) w s h = define-kept o k d w (kind w.lists o) s (λ ordinary. ordinary_kept (Define o k d) w s h ordinary)
+request-kept (Has o k) w s h = object-kept (Has o k) w o s h refl (λ k. refl)
 request-kept (Read o k r site) w s h =
     noting-kept (Read o k r site) w site Reads o k r _ s (λ v sv g.
-    object-kept (Read o k r site) v o sv (object-later w.lists v.lists g o h.0, key-later w.lists v.lists g k h.1, known-later w.lists v.lists g r h.2) refl)
+    object-kept (Read o k r site) v o sv (object-later w.lists v.lists g o h.0, key-later w.lists v.lists g k h.1, known-later w.lists v.lists g r h.2) refl (λ k. refl))
 request-kept (Write o k x r site) w s h =
     noting-kept (Write o k x r site) w site (Writes (class_of x)) o k r _ s (λ v sv g.
-    object-kept (Write o k x r site) v o sv (object-later w.lists v.lists g o h.0, key-later w.lists v.lists g k h.1, known-later w.lists v.lists g x h.2, known-later w.lists v.lists g r h.3) refl)
-request-kept (Delete o k) w s h = object-kept (Delete o k) w o s h refl
-request-kept (Keys o) w s h = object-kept (Keys o) w o s h refl
-request-kept (Proto o) w s h = object-kept (Proto o) w o s h refl
-request-kept (SetProto o p) w s h = object-kept (SetProto o p) w o s h refl
-request-kept (Extensible o) w s h = object-kept (Extensible o) w o s h refl
-request-kept (Prevent o) w s h = object-kept (Prevent o) w o s h refl
+    object-kept (Write o k x r site) v o sv (object-later w.lists v.lists g o h.0, key-later w.lists v.lists g k h.1, known-later w.lists v.lists g x h.2, known-later w.lists v.lists g r h.3) refl (λ k. refl))
+request-kept (Delete o k) w s h = object-kept (Delete o k) w o s h refl (λ k. refl)
+request-kept (Keys o) w s h = object-kept (Keys o) w o s h refl (λ k. refl)
+request-kept (Proto o) w s h = object-kept (Proto o) w o s h refl (λ k. refl)
+request-kept (SetProto o p) w s h = object-kept (SetProto o p) w o s h refl (λ k. refl)
+request-kept (Extensible o) w s h = object-kept (Extensible o) w o s h refl (λ k. refl)
+request-kept (Prevent o) w s h = object-kept (Prevent o) w o s h refl (λ k. refl)
 request-kept (Call f this arguments) w s h = call-kept w f this arguments s h.0 h.1 h.2
 request-kept (Construct f arguments target) w s h =
     construct_of-kept w (kind w.lists f) f arguments target s (s.kinds f h.0) h.0 h.1 h.2

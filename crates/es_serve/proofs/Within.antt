@@ -28,7 +28,7 @@ use Rattle.plain_builtins.proofs.PlainWithin.{row-within, work-within}
 use Rattle.evaluator.specs.Functions as functions
 use Rattle.evaluator.proofs.FunctionsWithin.{call_program-within, construct_program-within}
 use Rattle.evaluator.proofs.TasksWithin.{node-within, statements-within, round-within}
-use Rattle.es_serve.specs.Serve.{method_of, is_counted, noting, builtin_called, call_of, call_program, construct_of, request_program, program_of}
+use Rattle.es_serve.specs.Serve.{method_of, define_of, is_counted, noting, builtin_called, call_of, call_program, construct_of, request_program, program_of}
 
 -- an error that is thrown asks for nothing, and what is entered is not written yet
 no_function-within : (r b : ℕ) → IsWithin r b not_a_function
@@ -54,6 +54,17 @@ method-within r enough (kind_of.Wrapper v) q = ordinary-within r enough q
 method-within r enough (kind_of.Arguments cells) q = tt
 method-within r enough kind_of.Error q = ordinary-within r enough q
 method-within r enough (kind_of.Proxy target handler callable constructor) q = entering-within r (request_weight q)
+
+define-within : (r : ℕ) → 200 ≤ r → (k : ObjectKind) (q : Request) → IsWithin r (request_weight q) (define_of k q)
+define-within r enough kind_of.Ordinary q = ordinary-within r enough q
+define-within r enough (kind_of.Function function constructor strict) q = ordinary-within r enough q
+define-within r enough (kind_of.Builtin row constructor proxy) q = ordinary-within r enough q
+define-within r enough kind_of.Array q = tt
+define-within r enough (kind_of.Text t) q = ordinary-within r enough q
+define-within r enough (kind_of.Wrapper v) q = ordinary-within r enough q
+define-within r enough (kind_of.Arguments cells) q = tt
+define-within r enough kind_of.Error q = ordinary-within r enough q
+define-within r enough (kind_of.Proxy target handler callable constructor) q = entering-within r (request_weight q)
 
 noting-within : (r b : ℕ) (site : Option SiteId) (way : Way) (o : ObjectId) (k : PropKey) (v : Value) (p : Program) → IsWithin r b p → IsWithin r b (noting site way o k v p)
 noting-within r b None way o k v p h = h
@@ -107,7 +118,7 @@ construct_of-within r enough script (kind_of.Proxy t handler callable constructo
 
 request-within : (r : ℕ) → 200 ≤ r → (script : Tree) (q : Request) → IsWithin r (request_weight q) (request_program script q)
 request-within r enough script (GetOwn o k) = λ l. method-within r enough (kind l o) (GetOwn o k)
-request-within r enough script (Define o k wanted) = λ l. method-within r enough (kind l o) (Define o k wanted)
+request-within r enough script (Define o k wanted) = λ l. define-within r enough (kind l o) (Define o k wanted)
 request-within r enough script (Has o k) = λ l. method-within r enough (kind l o) (Has o k)
 request-within r enough script (Read o k v site) =
     noting-within r 1 site Reads o k v (look (λ l. method_of (kind l o) (Read o k v site))) (λ l. method-within r enough (kind l o) (Read o k v site))

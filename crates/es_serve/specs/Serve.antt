@@ -42,6 +42,14 @@ method_of (kind_of.Proxy target handler callable constructor) q = entering unwri
 abbrev pub method_program : ObjectId → Request → Program
 method_program o q = look (λ l. method_of (kind l o) q)
 
+-- [[DefineOwnProperty]]: that of an Array object is its own (10.4.2.1), and is not written yet
+abbrev pub define_of : ObjectKind → Request → Program
+define_of kind_of.Array q = unwritten
+define_of other q = method_of other q
+
+abbrev pub define_program : ObjectId → Request → Program
+define_program o q = look (λ l. define_of (kind l o) q)
+
 -- a site counts an access on its own receiver that is no Proxy, by a key that is no array index
 abbrev pub is_counted : ObjectKind → ObjectId → PropKey → Value → Bool
 is_counted (kind_of.Proxy target handler callable constructor) o k receiver = false
@@ -85,7 +93,7 @@ construct_program script f arguments target = look (λ l. construct_of script (k
 
 abbrev pub request_program : Tree → Request → Program
 request_program script (GetOwn o k) = method_program o (GetOwn o k)
-request_program script (Define o k wanted) = method_program o (Define o k wanted)
+request_program script (Define o k wanted) = define_program o (Define o k wanted)
 request_program script (Has o k) = method_program o (Has o k)
 request_program script (Read o k receiver site) = noting site Reads o k receiver (method_program o (Read o k receiver site))
 request_program script (Write o k v receiver site) = noting site (Writes (class_of v)) o k receiver (method_program o (Write o k v receiver site))

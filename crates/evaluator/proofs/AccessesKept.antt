@@ -2,6 +2,7 @@
 use Rattle.std.proofs.Common.{Option, Some, None, refl}
 use Rattle.property_keys.specs.declared.keys.PropKey.{PropKey}
 use Rattle.property_keys.specs.declared.values.Value.{Value}
+use Rattle.property_keys.specs.declared.values.Value.TheVariants as value
 use Rattle.es_tree.specs.declared.expressions.Access.{Access}
 use Rattle.es_tree.specs.declared.expressions.Access.TheVariants as access
 use Rattle.es_tree.specs.declared.names.Target.{Target}
@@ -17,10 +18,14 @@ use Rattle.es_model.specs.World.{World}
 use Rattle.es_model.specs.Program.{Program, charge}
 use Rattle.es_model.specs.Known.{IsKnown, IsKnownKey}
 use Rattle.es_model.specs.Sound.{IsSound}
+use Rattle.es_model.specs.programs.Converting.{to_number}
+use Rattle.es_model.specs.programs.Texts.{to_string}
+use Rattle.es_model.proofs.Keeping.{later_none}
 use Rattle.evaluator.specs.declared.references.Reference.{Reference}
 use Rattle.evaluator.specs.declared.references.Reference.TheVariants as reference
 use Rattle.evaluator.specs.Accesses.{access_reference, index_based, key_converted, key_valued, member_based, read_reference, target_at, target_reference}
-use Rattle.evaluator.specs.Contexts.{Context, convert, gives, given, node_at}
+use Rattle.evaluator.specs.Contexts.{Context, convert, gives, given, node_at, normal}
+use Rattle.evaluator.specs.Operators.{to_primitive}
 use Rattle.evaluator.proofs.ReferencesKept.{IsKnownReference, OnReference, get_value-kept, references-stay, resolve-kept}
 use Rattle.evaluator.proofs.WordsKept.{Keeps, done-kept, IsHere, OnEnd, asked-kept, charged-kept, evaluated-kept, here-stays, key-kept, key-stays, value-kept, value-stays, with_key-kept}
 
@@ -28,15 +33,33 @@ use Rattle.evaluator.proofs.WordsKept.{Keeps, done-kept, IsHere, OnEnd, asked-ke
 pub given-kept : (w : World) → OnEnd w given
 given-kept w = λ c v sv l known. value-kept v gives c sv known (λ x k. (done-kept v _ sv k))
 
--- a conversion of a value that is there, where it has one operand
-pub number_asked-kept : (w : World) (x : Value) (next : Completion → Program) → IsSound w → IsKnown w.lists x → OnEnd w next → Keeps (convert operation.ToWhole x next) w
-number_asked-kept w x next s known f = asked-kept w (Work operation.ToWhole _) next s (refl, (known, tt)) f
+-- conversions of a value that is there
+pub number_asked-kept : (w : World) (x : Value) (next : Completion → Program) → IsSound w → IsKnown w.lists x → OnEnd w next → Keeps (to_number x next) w
+number_asked-kept w (value.Whole n) next s known f = f (normal (value.Whole n)) w s (later_none w) known
+number_asked-kept w value.Undefined next s known f = asked-kept w (Work operation.ToWhole _) next s (refl, (known, tt)) f
+number_asked-kept w value.Null next s known f = asked-kept w (Work operation.ToWhole _) next s (refl, (known, tt)) f
+number_asked-kept w (value.Bool b) next s known f = asked-kept w (Work operation.ToWhole _) next s (refl, (known, tt)) f
+number_asked-kept w (value.Text t) next s known f = asked-kept w (Work operation.ToWhole _) next s (refl, (known, tt)) f
+number_asked-kept w (value.Symbol y) next s known f = asked-kept w (Work operation.ToWhole _) next s (refl, (known, tt)) f
+number_asked-kept w (value.Object o) next s known f = asked-kept w (Work operation.ToWhole _) next s (refl, (known, tt)) f
 
-pub text_asked-kept : (w : World) (x : Value) (next : Completion → Program) → IsSound w → IsKnown w.lists x → OnEnd w next → Keeps (convert operation.ToText x next) w
-text_asked-kept w x next s known f = asked-kept w (Work operation.ToText _) next s (refl, (known, tt)) f
+pub text_asked-kept : (w : World) (x : Value) (next : Completion → Program) → IsSound w → IsKnown w.lists x → OnEnd w next → Keeps (to_string x next) w
+text_asked-kept w (value.Text t) next s known f = f (normal (value.Text t)) w s (later_none w) known
+text_asked-kept w value.Undefined next s known f = asked-kept w (Work operation.ToText _) next s (refl, (known, tt)) f
+text_asked-kept w value.Null next s known f = asked-kept w (Work operation.ToText _) next s (refl, (known, tt)) f
+text_asked-kept w (value.Bool b) next s known f = asked-kept w (Work operation.ToText _) next s (refl, (known, tt)) f
+text_asked-kept w (value.Whole n) next s known f = asked-kept w (Work operation.ToText _) next s (refl, (known, tt)) f
+text_asked-kept w (value.Symbol y) next s known f = asked-kept w (Work operation.ToText _) next s (refl, (known, tt)) f
+text_asked-kept w (value.Object o) next s known f = asked-kept w (Work operation.ToText _) next s (refl, (known, tt)) f
 
-pub primitive_asked-kept : (w : World) (x : Value) (next : Completion → Program) → IsSound w → IsKnown w.lists x → OnEnd w next → Keeps (convert operation.ToPrimitiveDefault x next) w
-primitive_asked-kept w x next s known f = asked-kept w (Work operation.ToPrimitiveDefault _) next s (refl, (known, tt)) f
+pub primitive_asked-kept : (w : World) (x : Value) (next : Completion → Program) → IsSound w → IsKnown w.lists x → OnEnd w next → Keeps (to_primitive x next) w
+primitive_asked-kept w value.Undefined next s known f = f (normal value.Undefined) w s (later_none w) known
+primitive_asked-kept w value.Null next s known f = f (normal value.Null) w s (later_none w) known
+primitive_asked-kept w (value.Bool b) next s known f = f (normal (value.Bool b)) w s (later_none w) known
+primitive_asked-kept w (value.Whole n) next s known f = f (normal (value.Whole n)) w s (later_none w) known
+primitive_asked-kept w (value.Text t) next s known f = f (normal (value.Text t)) w s (later_none w) known
+primitive_asked-kept w (value.Symbol y) next s known f = f (normal (value.Symbol y)) w s (later_none w) known
+primitive_asked-kept w (value.Object o) next s known f = asked-kept w (Work operation.ToPrimitiveDefault _) next s (refl, (known, tt)) f
 
 pub key_asked-kept : (w : World) (x : Value) (next : Completion → Program) → IsSound w → IsKnown w.lists x → OnEnd w next → Keeps (convert operation.ToKey x next) w
 key_asked-kept w x next s known f = asked-kept w (Work operation.ToKey _) next s (refl, (known, tt)) f

@@ -18,7 +18,7 @@ use Rattle.evaluator.specs.Values.{whole_of}
 use Rattle.evaluator.proofs.AccessesWithin.{target_reference-within}
 use Rattle.evaluator.proofs.OperatorsWithin.{apply-within}
 use Rattle.evaluator.proofs.ReferencesWithin.{get_value-within, put_value-within}
-use Rattle.evaluator.proofs.WordsWithin.{On, Within, asked-within, done-within, evaluated-within, or_out-within, value-within}
+use Rattle.evaluator.proofs.WordsWithin.{On, Within, done-within, evaluated-within, number-within, or_out-within, value-within}
 
 -- ---- `=`
 
@@ -67,7 +67,7 @@ update_converted-within r b here increment prefix ref some enough = λ c. value-
 
 pub update_read-within : (r b : ℕ) (here : Context) (increment prefix : Bool) (ref : Reference) → 48 ≤ b → 33 ≤ r → On r b (update_read here increment prefix ref)
 update_read-within r b here increment prefix ref some enough = λ c. value-within r b _ c (λ v.
-    (asked-within _ _ 35 _ _ (omega arith) (update_converted-within r 35 here increment prefix ref (omega arith) enough)))
+    number-within r b 35 v _ (omega arith) (update_converted-within r 35 here increment prefix ref (omega arith) enough))
 
 pub update_reference-within : (r b : ℕ) (here : Context) (increment prefix : Bool) (ref : Reference) → 52 ≤ b → 50 ≤ r → Within r b (update_reference here increment prefix ref)
 update_reference-within r b here increment prefix ref some enough =

@@ -1,5 +1,5 @@
 -- Functions are made where they stand, and declared ones where their code is entered, over plain variables.
-use Rattle.std.proofs.Common.{◌≡◌, ◌≤◌, ℕ, suc, Bool, true, false, cond, Option, Some, List, [], ◌∷◌, drop, length, nat_le, slice_get, Result, Ok, Err, OnOk, refl, sym, ◌∙◌, ap, subst}
+use Rattle.std.proofs.Common.{◌≡◌, ◌≤◌, ℕ, suc, Bool, true, false, cond, Option, Some, None, List, [], ◌∷◌, drop, length, nat_le, slice_get, Result, Ok, Err, OnOk, refl, sym, ◌∙◌, ap, subst}
 use Rattle.std.proofs.lemmas.List.{drop_all}
 use Rattle.property_keys.specs.declared.identifiers.ObjectId.{ObjectId}
 use Rattle.property_keys.specs.declared.identifiers.TextId.{TextId}
@@ -12,36 +12,64 @@ use Rattle.es_tree.specs.declared.numbers.FunctionNo.{FunctionNo}
 use Rattle.es_tree.specs.Tree.{Tree}
 use Rattle.es_model.specs.declared.answers.Stop.{Stop}
 use Rattle.es_model.specs.declared.answers.Stop.TheVariants.{Halted, NoMemory}
+use Rattle.es_model.specs.declared.running.FunctionName.{FunctionName}
 use Rattle.es_model.specs.Changes.{Interning, changed, charged}
 use Rattle.es_model.specs.Program.{Program, charge}
 use Rattle.es_model.specs.Stages.{AtEnd, AtHalt, stage_of}
 use Rattle.es_model.specs.World.{World, new_object, number_of}
 use Rattle.object_heap.specs.Stands.{HeapView, StandsFor, Goes, goes_none, goes_then, halts_at, halts_then}
 use Rattle.object_heap.proofs.StartLists.{dropped-one}
-use Rattle.function_objects.specs.Making.{function_made, function_world}
-use Rattle.function_objects.proofs.Made.{made_stage}
+use Rattle.function_objects.specs.Making.{created_world, function_made, function_world, name_function, named_world}
+use Rattle.function_objects.proofs.Made.{created_stage, made_stage, named_stage}
 use Rattle.evaluator.specs.declared.items.Ending.TheVariants as ending
+use Rattle.evaluator.specs.declared.items.Plan.{Plan}
 use Rattle.evaluator.specs.declared.items.Plan.TheVariants as plan
 use Rattle.evaluator.specs.Contexts.{Context, context, gives, normal}
-use Rattle.evaluator.specs.Entering.{Brings, Declares}
+use Rattle.evaluator.specs.Entering.{Brings, Declares, Makes}
+use Rattle.evaluator.specs.Errors.{text_too_long}
 use Rattle.evaluator.specs.Functions.{bind_declared, declare_found, declare_functions, function_name, make_found, make_function, written_name}
-use Rattle.evaluator.specs.Plans.{Plans}
+use Rattle.evaluator.specs.Plans.{Plans, PlansIn}
+use Rattle.evaluator.proofs.Defining.{plans_same}
 use Rattle.evaluator.proofs.Joining.{text_stage}
 
 -- ---- function expressions, methods and accessors
 
-pub function_plan : (here : Context) (a b c : HeapView) (w : World) (name : Option TextId) (f : FunctionNo) (facts : FunctionFacts) (code : Body) (n : TextId) (o : ObjectId) →
-    slice_get here.script.functions f.0 ≡ Some facts → slice_get here.script.bodies f.0 ≡ Some code → Brings a b w (function_name code.name name) n →
-    ((v : World) → StandsFor b v → o ≡ new_object v.lists) → ((v : World) → StandsFor b v → Goes b c v (function_world f facts n v)) →
-    Plans here here a c w (stage_of (make_function here name f) w) (Ok (plan.Ends (ending.Gives (value.Object o))))
-function_plan here a b c w name f facts code n o found body (v, g, e) is goes =
-    let u : World = function_world f facts n v in
-    let end : ObjectId → Program = λ (p : ObjectId). gives (value.Object p) in
-    let k : TextId → Program = λ (m : TextId). function_made f facts m end in
-    let at : stage_of (make_function here name f) w ≡ AtEnd (normal (value.Object o)) u =
-    ap (λ (x : Option FunctionFacts). stage_of (make_found here name f x) w) found ∙ ap (λ (x : Option Body). stage_of (function_name (written_name x) name k) w) body ∙ e k ∙ made_stage f facts n end v
-    ∙ ap (λ (p : ObjectId). AtEnd (normal (value.Object p)) u) (sym (is v g.stands)) in
-    subst (λ s. Plans here here a c w s (Ok (plan.Ends (ending.Gives (value.Object o))))) (sym at) (refl, goes_then a b c w v u g (goes v g.stands))
+-- what comes behind the creation of one
+found-stage : (here : Context) (w : World) (name : Option FunctionName) (f : FunctionNo) (facts : FunctionFacts) (code : Body) (o : ObjectId) →
+    slice_get here.script.functions f.0 ≡ Some facts → slice_get here.script.bodies f.0 ≡ Some code → o ≡ new_object w.lists →
+    stage_of (make_function here name f) w ≡ stage_of (function_name code.name name (λ n. name_function o facts n (gives (value.Object o)))) (created_world f facts w)
+found-stage here w name f facts code o found body is =
+    let u : World = created_world f facts w in
+    let named : ObjectId → TextId → Program = λ (p : ObjectId) (n : TextId). name_function p facts n (gives (value.Object p)) in
+    ap (λ (x : Option FunctionFacts). stage_of (make_found here name f x) w) found
+    ∙ created_stage f facts (λ p. function_name (written_name (slice_get here.script.bodies f.0)) name (named p)) w
+    ∙ ap (λ (x : Option Body). stage_of (function_name (written_name x) name (named (new_object w.lists))) u) body
+    ∙ ap (λ (p : ObjectId). stage_of (function_name code.name name (named p)) u) (sym is)
+
+pub function_plan : (here : Context) (a b c d : HeapView) (w : World) (name : Option FunctionName) (f : FunctionNo) (facts : FunctionFacts) (code : Body) (o : ObjectId) (x : Option TextId) (n : TextId) →
+    slice_get here.script.functions f.0 ≡ Some facts → slice_get here.script.bodies f.0 ≡ Some code → o ≡ new_object w.lists → Goes a b w (created_world f facts w) →
+    ((v : World) → StandsFor b v → Makes b c v (function_name code.name name) x) → x ≡ Some n → ((v : World) → StandsFor c v → Goes c d v (named_world o facts n v)) →
+    Plans here here a d w (stage_of (make_function here name f) w) (Ok (plan.Ends (ending.Gives (value.Object o))))
+function_plan here a b c d w name f facts code o x n found body is one makes some goes =
+    let u : World = created_world f facts w in
+    let (v, two, e) = subst (λ y. Makes b c u (function_name code.name name) y) some (makes u one.stands) in
+    let three : Goes c d v (named_world o facts n v) = goes v two.stands in
+    let at : stage_of (make_function here name f) w ≡ AtEnd (normal (value.Object o)) (named_world o facts n v) =
+    found-stage here w name f facts code o found body is ∙ e (λ m. name_function o facts m (gives (value.Object o))) ∙ named_stage o facts n (gives (value.Object o)) v in
+    subst (λ s. Plans here here a d w s (Ok (plan.Ends (ending.Gives (value.Object o))))) (sym at)
+    (refl, goes_then a b d w u (named_world o facts n v) one (goes_then b c d u v (named_world o facts n v) two three))
+
+-- where the name is too long, what that throws comes next
+pub function_too_long : (here : Context) (a b c d : HeapView) (w : World) (name : Option FunctionName) (f : FunctionNo) (facts : FunctionFacts) (code : Body) (o : ObjectId) (x : Option TextId) (r : Result Plan Stop) →
+    slice_get here.script.functions f.0 ≡ Some facts → slice_get here.script.bodies f.0 ≡ Some code → o ≡ new_object w.lists → Goes a b w (created_world f facts w) →
+    ((v : World) → StandsFor b v → Makes b c v (function_name code.name name) x) → x ≡ None → PlansIn here here c d (λ y. text_too_long) r →
+    Plans here here a d w (stage_of (make_function here name f) w) r
+function_too_long here a b c d w name f facts code o x r found body is one makes none throws =
+    let u : World = created_world f facts w in
+    let (two, e) = subst (λ y. Makes b c u (function_name code.name name) y) none (makes u one.stands) in
+    let next : TextId → Program = λ (m : TextId). name_function o facts m (gives (value.Object o)) in
+    plans_same here a c d w u (make_function here name f) text_too_long r (goes_then a b c w u u one two)
+    (found-stage here w name f facts code o found body is ∙ e next) (throws u two.stands)
 
 -- ---- one declared function
 

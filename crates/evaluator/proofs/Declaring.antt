@@ -6,6 +6,7 @@ use Rattle.property_keys.specs.declared.values.Value.TheVariants as value
 use Rattle.property_keys.specs.Limits.{most_units}
 use Rattle.es_tree.specs.declared.numbers.NodeId.{NodeId}
 use Rattle.es_tree.specs.declared.statements.Declared.{Declared}
+use Rattle.es_model.specs.declared.running.FunctionName.TheVariants as given_name
 use Rattle.es_model.specs.declared.answers.Stop.{Stop}
 use Rattle.es_model.specs.declared.kinds.CellNo.{CellNo}
 use Rattle.es_model.specs.Completions.{Completion}
@@ -60,11 +61,11 @@ pub declaring_waits : (here : Context) (rest : List Declared) (a b c : HeapView)
     Declaring here (declared_at here node) a b w first next → drop next (declared_at here node) ≡ d ∷ rest → d.value ≡ Some n →
     nat_le (length d.named.name) most_units ≡ true → ((v : World) → StandsFor b v → id ≡ number_of v.lists d.named.name) →
     ((v : World) → StandsFor b v → Goes b c v (changed (Interning d.named.name) v)) →
-    Plans here here a c w (stage_of (declare_all here (drop first (declared_at here node))) w) (Ok (plan.Wait (job.Node (Some id) n) (item.Statement (statement.Declared node next))))
+    Plans here here a c w (stage_of (declare_all here (drop first (declared_at here node))) w) (Ok (plan.Wait (job.Node (Some (given_name.Text id)) n) (item.Statement (statement.Declared node next))))
 declaring_waits here rest a b c w first next d n node id (v, g, e) is some short number goes =
     let u : World = changed (Interning d.named.name) v in
-    let k : TextId → Program = (λ name. evaluate_named here (Some name) n (λ c. then_value (λ x. initialise here d.named.binding x (declare_all here rest)) c)) in
-    subst (λ s. Plans here here a c w s (Ok (plan.Wait (job.Node (Some id) n) (item.Statement (statement.Declared node next)))))
+    let k : TextId → Program = (λ name. evaluate_named here (Some (given_name.Text name)) n (λ c. then_value (λ x. initialise here d.named.binding x (declare_all here rest)) c)) in
+    subst (λ s. Plans here here a c w s (Ok (plan.Wait (job.Node (Some (given_name.Text id)) n) (item.Statement (statement.Declared node next)))))
     (sym (e ∙ ap (λ l. stage_of (declare_all here l) v) is ∙ ap (λ m. stage_of (declare_first here d m (declare_all here rest)) v) some ∙ text_stage d.named.name k v id short (number v g.stands)))
     (refl, ap {B = Completion → Program} (λ (l : List Declared) (c : Completion). declared_valued here l c) is, goes_then a b c w v u g (goes v g.stands))
 

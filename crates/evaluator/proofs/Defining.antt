@@ -1,5 +1,5 @@
 -- Property definitions, one after another, over plain variables.
-use Rattle.std.proofs.Common.{◌≡◌, ℕ, true, ◌++◌, Option, Some, None, List, [], ◌∷◌, drop, length, nat_le, is_some, Result, Ok, Err, refl, sym, ◌∙◌, ap, subst}
+use Rattle.std.proofs.Common.{◌≡◌, ℕ, true, Option, Some, None, List, [], ◌∷◌, drop, length, nat_le, Result, Ok, Err, refl, sym, ◌∙◌, ap, subst}
 use Rattle.property_keys.specs.Limits.{most_units}
 use Rattle.property_keys.specs.declared.identifiers.ObjectId.{ObjectId}
 use Rattle.property_keys.specs.declared.identifiers.TextId.{TextId}
@@ -20,16 +20,14 @@ use Rattle.evaluator.specs.declared.items.Ending.TheVariants as ending
 use Rattle.evaluator.specs.declared.items.Item.TheVariants as item
 use Rattle.evaluator.specs.declared.items.Job.TheVariants as job
 use Rattle.evaluator.specs.declared.items.LiteralItem.TheVariants as literal
-use Rattle.evaluator.specs.declared.items.Made.{Made}
 use Rattle.evaluator.specs.declared.items.Plan.{Plan}
 use Rattle.evaluator.specs.declared.items.Plan.TheVariants as plan
-use Rattle.evaluator.specs.Contexts.{Context, evaluate, evaluate_named}
-use Rattle.evaluator.specs.Literals.{key_valued, method_keyed, name_units, plain, properties_at, properties_from, property_then, property_valued, shorthand_keyed}
-use Rattle.evaluator.specs.Plans.{Defines, DefinesIn, Plans, made_by, named_world, property_keyed}
+use Rattle.evaluator.specs.Contexts.{Context, evaluate}
+use Rattle.evaluator.specs.Literals.{key_valued, plain, properties_at, properties_from, property_then, property_valued, shorthand_keyed}
+use Rattle.evaluator.specs.Plans.{Defines, DefinesIn, Plans, property_keyed}
 use Rattle.evaluator.specs.References.{get_value, resolve_bound}
 use Rattle.evaluator.specs.Values.{key_of_text, with_key}
 use Rattle.evaluator.proofs.Joining.{text_stage}
-use Rattle.evaluator.proofs.Naming.{name_stage}
 use Rattle.evaluator.proofs.Planned.{plans_then}
 
 -- a plan of another program with the same stage, which begins where another call left the heap
@@ -68,18 +66,6 @@ pub computed_plan : (here : Context) (a : HeapView) (w : World) (n : NodeId) (o 
     (Ok (plan.Wait (job.Node None key) (item.Literal (literal.KeyValued n at o))))
 computed_plan here a w n o p at next key h is =
     let waits : List Property → Completion → Program = λ l c. key_valued (property_keyed here o l) c in (refl, ap waits is, goes_none a w h)
-
--- ---- methods and anonymous functions get the key as their name
-
-pub named_plan : (here : Context) (a b : HeapView) (w : World) (n : NodeId) (next : ℕ) (o : ObjectId) (prefix : List ℕ) (k : PropKey) (m : Made) (method : NodeId) (x : Option TextId) (id : TextId) → x ≡ Some id →
-    nat_le (length (prefix ++ name_units w.lists k)) most_units ≡ is_some x → id ≡ number_of w.lists (prefix ++ name_units w.lists k) → Goes a b w (named_world w prefix k x) →
-    Plans here here a b w (stage_of (method_keyed here o prefix (made_by m) method (properties_from here o (drop next (properties_at here n))) k) w)
-    (Ok (plan.Wait (job.Node (Some id) method) (item.Literal (literal.PropertyValued n next o k m))))
-named_plan here a b w n next o prefix k m method x id found fits number goes =
-    let rest : Program = properties_from here o (drop next (properties_at here n)) in
-    subst (λ s. Plans here here a b w s (Ok (plan.Wait (job.Node (Some id) method) (item.Literal (literal.PropertyValued n next o k m)))))
-    (sym (name_stage prefix k (λ name. evaluate_named here (Some name) method (property_valued o k (made_by m) rest)) w x id found fits number))
-    (refl, refl, subst (λ y. Goes a b w (named_world w prefix k y)) found goes)
 
 -- ---- the loop: the definitions from one number up to another are done
 

@@ -20,35 +20,40 @@ use Rattle.es_model.specs.declared.kinds.CellNo.{CellNo}
 use Rattle.es_model.specs.declared.kinds.ErrorKind.TheVariants as error
 use Rattle.es_model.specs.declared.requests.Request.{Request}
 use Rattle.es_model.specs.declared.requests.Request.TheVariants.{Call, Construct}
+use Rattle.es_model.specs.declared.running.FunctionName.{FunctionName}
+use Rattle.es_model.specs.declared.running.FunctionName.TheVariants as given_name
+use Rattle.es_model.specs.declared.running.NamePrefix.{NamePrefix}
 use Rattle.es_model.specs.declared.running.Part.{Part}
 use Rattle.es_model.specs.declared.running.Part.TheVariants as part_of
 use Rattle.es_model.specs.declared.running.Running.{Running}
 use Rattle.es_model.specs.Changes.{Change, Defining, Interning, MakingCell, SettingCell, changed, charged}
 use Rattle.es_model.specs.Completions.{Completion, Normal, Break, Continue, Return, Throw}
 use Rattle.es_model.specs.Fits.{Fits, IsKnownCompletion}
-use Rattle.es_model.specs.Kept.{AreCells, FitsTask, IsKept, IsKnownRunning, IsLater}
+use Rattle.es_model.specs.Kept.{AreCells, FitsTask, IsKept, IsKnownName, IsKnownRunning, IsLater}
 use Rattle.es_model.specs.Known.{AreKnown, IfThere, IsKnown, IsObject, IsText}
 use Rattle.es_model.specs.Program.{Of, Program, Statements, Task, charge, done, intern}
 use Rattle.es_model.specs.Sound.{IsSound}
 use Rattle.es_model.specs.World.{Lists, World, new_cell, number_of}
 use Rattle.es_model.proofs.Keeping.{later_none, later_then}
+use Rattle.es_model.proofs.KnownLater.{there-map}
 use Rattle.es_model.proofs.SharedKept.{later-changed}
+use Rattle.es_model.proofs.ArrayLengths.{IsNoArray, no_array-later, no_array-leaves}
 use Rattle.es_model.proofs.SoundChanges.{sound-cell, sound-cell_set, sound-defining, sound-interning}
 use Rattle.es_model.proofs.SoundErrors.{error-kept, interned-known, kept-if, throw-fits}
 use Rattle.es_model.proofs.SoundReads.{sound-charged}
-use Rattle.function_objects.specs.Making.{function_made}
+use Rattle.function_objects.specs.Making.{create_function, function_made, name_function}
 use Rattle.function_objects.proofs.Bound.{bind_this_kept}
 use Rattle.function_objects.proofs.Constructed.{constructed_kept, get_prototype_kept, noted_kept, prototype_kept}
-use Rattle.function_objects.proofs.Made.{made_kept}
+use Rattle.function_objects.proofs.Made.{create_kept, made_kept, name_kept}
 use Rattle.evaluator.specs.Contexts.{Context, context, normal, with_cells}
 use Rattle.evaluator.specs.Errors.{make_text, text_too_long}
-use Rattle.evaluator.specs.Functions.{bind_in, bind_parameters, body_end, body_ended, call_found, call_program, construct_answered, construct_failed, construct_found, construct_given, construct_on, construct_program, constructed_end, declare_found, declare_functions, ended_by, enter_function, evaluate_body, evaluate_found, facts_of, function_name, global_function, make_found, make_function, note_by, run_body, run_part, running, script_body, script_program, written_name}
+use Rattle.evaluator.specs.Functions.{bind_in, bind_parameters, body_end, body_ended, call_found, call_program, construct_answered, construct_failed, construct_found, construct_given, construct_on, construct_program, constructed_end, declare_found, declare_functions, ended_by, enter_function, evaluate_body, evaluate_found, facts_of, function_name, global_function, make_found, make_function, note_by, run_body, run_part, running, script_body, script_program, with_name, written_name}
 use Rattle.evaluator.specs.References.{global}
 use Rattle.evaluator.specs.Scopes.{bound_cell}
 use Rattle.evaluator.specs.Soundness.{FitsEnd, IsKnownEnd, IsKnownNew}
 use Rattle.evaluator.specs.Values.{key_of_text}
 use Rattle.evaluator.proofs.StatementsKept.{cells-more, cells_kept}
-use Rattle.evaluator.proofs.WordsKept.{Keeps, kept-of, done-kept, IsHere, OnText, completion-stays, global-there, here-stays, later-charged, text-key, text-kept, text-stays, object-stays, value-stays, values-stay}
+use Rattle.evaluator.proofs.WordsKept.{Keeps, kept-of, kept-whole, done-kept, look-kept, IsHere, OnText, completion-stays, global-there, here-stays, later-charged, name-stays, text-key, text-kept, text-stays, object-stays, value-stays, values-stay, global-other}
 
 -- ---- what is there of the script
 
@@ -58,23 +63,32 @@ facts-here w here f facts h e = subst (λ (script : Tree). slice_get script.func
 
 -- ---- function expressions, methods and accessors
 
-name-kept : (w : World) (written : Option (List ℕ)) (given : Option TextId) (next : TextId → Program) → IsSound w → IfThere (IsText w.lists) given → OnText w next → Keeps (function_name written given next) w
+with_name-kept : (w : World) (before : NamePrefix) (k : PropKey) (next : TextId → Program) → IsSound w → OnText w next → Keeps (with_name before k next) w
+with_name-kept w before k next s f = look-kept w _ (text-kept w _ next s f)
+
+name-kept : (w : World) (written : Option (List ℕ)) (given : Option FunctionName) (next : TextId → Program) → IsSound w → IfThere (IsKnownName w.lists) given → OnText w next → Keeps (function_name written given next) w
 name-kept w (Some units) given next s known f = text-kept w units next s f
-name-kept w None (Some name) next s known f = f name w s (later_none w) known
+name-kept w None (Some (given_name.Text name)) next s known f = f name w s (later_none w) known
+name-kept w None (Some (given_name.Key before k)) next s known f = with_name-kept w before k next s f
 name-kept w None None next s known f = text-kept w [] next s f
 
-made-kept : (w : World) (here : Context) (f : FunctionNo) (facts : FunctionFacts) (name : TextId) → IsSound w → IsHere w here → IsText w.lists name → slice_get here.script.functions f.0 ≡ Some facts →
-    Keeps (function_made f facts name (λ o. done (normal (value.Object o)))) w
-made-kept w here f facts name s h known e =
-    kept-of _ w (made_kept IsKnownCompletion f facts name (λ o. done (normal (value.Object o))) w s known (facts-here w here f.0 facts h e) h.0.top (λ o v sv l there. (sv, there)))
+created-kept : (w : World) (here : Context) (f : FunctionNo) (facts : FunctionFacts) (next : ObjectId → Program) → IsSound w → IsHere w here → slice_get here.script.functions f.0 ≡ Some facts →
+    ((o : ObjectId) (v : World) → IsSound v → IsLater w v → IsNoArray v.lists o → Keeps (next o) v) → Keeps (create_function f facts next) w
+created-kept w here f facts next s h e onward =
+    kept-of _ w (create_kept IsKnownCompletion f facts next w s (facts-here w here f.0 facts h e) h.0.top (λ o v sv l other. kept-whole (next o) v (onward o v sv l other)))
 
-make_found-kept : (w : World) (here : Context) (name : Option TextId) (f : FunctionNo) (found : Option FunctionFacts) → IsSound w → IsHere w here → IfThere (IsText w.lists) name → slice_get here.script.functions f.0 ≡ found →
+named-kept : (w : World) (o : ObjectId) (facts : FunctionFacts) (name : TextId) → IsSound w → IsNoArray w.lists o → IsText w.lists name →
+    Keeps (name_function o facts name (done (normal (value.Object o)))) w
+named-kept w o facts name s other known = kept-of _ w (name_kept IsKnownCompletion o facts name (done (normal (value.Object o))) w s other known (λ v sv l. (sv, object-stays w v l o other.there)))
+
+make_found-kept : (w : World) (here : Context) (name : Option FunctionName) (f : FunctionNo) (found : Option FunctionFacts) → IsSound w → IsHere w here → IfThere (IsKnownName w.lists) name → slice_get here.script.functions f.0 ≡ found →
     Keeps (make_found here name f found) w
 make_found-kept w here name f None s h known e = done-kept w _ s tt
-make_found-kept w here name f (Some facts) s h known e =
-    name-kept w (written_name (slice_get here.script.bodies f.0)) name _ s known (λ n v sv l text. made-kept v here f facts n sv (here-stays w v l here h) text e)
+make_found-kept w here name f (Some facts) s h known e = created-kept w here f facts _ s h e (λ o v sv l other.
+    name-kept v (written_name (slice_get here.script.bodies f.0)) name _ sv (there-map (IsKnownName w.lists) (IsKnownName v.lists) (name-stays w v l) name known) (λ n u su later text.
+    named-kept u o facts n su (no_array-later v.lists u.lists later.lists o other) text))
 
-pub make_function-kept : (w : World) (here : Context) (name : Option TextId) (f : FunctionNo) → IsSound w → IsHere w here → IfThere (IsText w.lists) name → Keeps (make_function here name f) w
+pub make_function-kept : (w : World) (here : Context) (name : Option FunctionName) (f : FunctionNo) → IsSound w → IsHere w here → IfThere (IsKnownName w.lists) name → Keeps (make_function here name f) w
 make_function-kept w here name f s h known = make_found-kept w here name f (slice_get here.script.functions f.0) s h known refl
 
 -- ---- what goes on in every later world, in a program of any task
@@ -105,7 +119,8 @@ bind_in-kept : (t : Task) (w : World) (f : Option FunctionNo) (here : Context) (
 bind_in-kept t w None here d name o next s text there onward =
     let k : PropKey = key_of_text w.lists name in
     let op : Change = Defining global k (global_function (value.Object o)) in
-    onward (changed op w) (sound-defining w global k (global_function (value.Object o)) s (global-there w s) (text-key w.lists name text) (record { value = there; get = tt; set = tt; sound = refl })) (later-changed op w)
+    onward (changed op w) (sound-defining w global k (global_function (value.Object o)) s (global-there w s) (text-key w.lists name text) (record { value = there; get = tt; set = tt; sound = refl })
+    (no_array-leaves w.lists global k (Some (value.Object o)) (global-other w s).other)) (later-changed op w)
 bind_in-kept t w (Some f) here d name o next s text there onward =
     let c : CellNo = bound_cell here d.named.binding in
     onward (changed (SettingCell c (value.Object o)) w) (sound-cell_set w c (value.Object o) s there) (later-changed (SettingCell c (value.Object o)) w)

@@ -3,6 +3,7 @@ use Rattle.std.proofs.Common.{ℕ, ◌≤◌, Option, Some, None, List, [], ◌�
 use Rattle.std.specs.Prelude.{zero, suc, ◌-◌, slice_get}
 use Rattle.property_keys.specs.declared.identifiers.ObjectId.{ObjectId}
 use Rattle.property_keys.specs.declared.identifiers.TextId.{TextId}
+use Rattle.property_keys.specs.declared.keys.PropKey.{PropKey}
 use Rattle.property_keys.specs.declared.values.Value.{Value}
 use Rattle.property_keys.specs.declared.values.Value.TheVariants as value
 use Rattle.es_tree.specs.declared.body.Body.{Body}
@@ -12,37 +13,50 @@ use Rattle.es_tree.specs.declared.numbers.FunctionNo.{FunctionNo}
 use Rattle.es_tree.specs.Tree.{Tree, top_names}
 use Rattle.es_model.specs.declared.intrinsics.Class.TheVariants as class
 use Rattle.es_model.specs.declared.kinds.CellNo.{CellNo}
+use Rattle.es_model.specs.declared.running.FunctionName.{FunctionName}
+use Rattle.es_model.specs.declared.running.FunctionName.TheVariants as given_name
+use Rattle.es_model.specs.declared.running.NamePrefix.{NamePrefix}
 use Rattle.es_model.specs.declared.running.Part.{Part}
 use Rattle.es_model.specs.declared.running.Part.TheVariants as part_of
 use Rattle.es_model.specs.declared.running.Running.{Running}
 use Rattle.es_model.specs.Completions.{Completion, Throw}
 use Rattle.es_model.specs.Program.{Program}
 use Rattle.es_model.specs.Weights.{IsWithin}
-use Rattle.function_objects.specs.Making.{function_made}
+use Rattle.function_objects.specs.Making.{create_function, function_made, name_function}
 use Rattle.function_objects.proofs.Bound.{bind_this_within}
 use Rattle.function_objects.proofs.Constructed.{get_prototype_within, prototype_within}
-use Rattle.function_objects.proofs.Made.{made_within}
+use Rattle.function_objects.proofs.Made.{create_within, made_within, name_within}
 use Rattle.evaluator.specs.Contexts.{Context, context, normal, with_cells}
-use Rattle.evaluator.specs.Functions.{bind_in, bind_parameters, body_ended, call_found, call_program, construct_answered, construct_failed, construct_found, construct_given, construct_on, construct_program, declare_found, declare_functions, ended_by, enter_function, evaluate_body, evaluate_found, facts_of, function_name, make_found, make_function, note_by, run_body, run_part, running, script_body, script_program, written_name}
+use Rattle.evaluator.specs.Functions.{bind_in, bind_parameters, body_ended, call_found, call_program, construct_answered, construct_failed, construct_found, construct_given, construct_on, construct_program, declare_found, declare_functions, ended_by, enter_function, evaluate_body, evaluate_found, facts_of, function_name, make_found, make_function, note_by, run_body, run_part, running, script_body, script_program, with_name, written_name}
 use Rattle.evaluator.proofs.StatementsWithin.{scope-within}
 use Rattle.evaluator.proofs.WordsWithin.{Within, within-of, within-whole, change-within, charged-within, cond-within, done-within, listed-within, look-within, more-within, text-within}
 
 -- ---- function expressions, methods and accessors
 
-name-within : (r b : ℕ) (written : Option (List ℕ)) (given : Option TextId) (next : TextId → Program) → ((t : TextId) → Within r b (next t)) → Within r b (function_name written given next)
+with_name-within : (r b : ℕ) (before : NamePrefix) (k : PropKey) (next : TextId → Program) → ((t : TextId) → Within r b (next t)) → Within r b (with_name before k next)
+with_name-within r b before k next h = look-within _ _ _ (λ l. text-within r b _ next h)
+
+name-within : (r b : ℕ) (written : Option (List ℕ)) (given : Option FunctionName) (next : TextId → Program) → ((t : TextId) → Within r b (next t)) → Within r b (function_name written given next)
 name-within r b (Some units) given next h = text-within r b units next h
-name-within r b None (Some name) next h = h name
+name-within r b None (Some (given_name.Text name)) next h = h name
+name-within r b None (Some (given_name.Key before k)) next h = with_name-within r b before k next h
 name-within r b None None next h = text-within r b [] next h
 
 made-within : (r b : ℕ) (f : FunctionNo) (facts : FunctionFacts) (name : TextId) (next : ObjectId → Program) → ((o : ObjectId) → Within r b (next o)) → Within r b (function_made f facts name next)
 made-within r b f facts name next h = within-of r b (function_made f facts name next) (made_within r b f facts name next (λ o. within-whole r b (next o) (h o)))
 
-make_found-within : (r b : ℕ) (here : Context) (name : Option TextId) (f : FunctionNo) (found : Option FunctionFacts) → Within r b (make_found here name f found)
+created-within : (r b : ℕ) (f : FunctionNo) (facts : FunctionFacts) (next : ObjectId → Program) → ((o : ObjectId) → Within r b (next o)) → Within r b (create_function f facts next)
+created-within r b f facts next h = within-of r b (create_function f facts next) (create_within r b f facts next (λ o. within-whole r b (next o) (h o)))
+
+named-within : (r b : ℕ) (o : ObjectId) (facts : FunctionFacts) (name : TextId) (next : Program) → Within r b next → Within r b (name_function o facts name next)
+named-within r b o facts name next h = within-of r b (name_function o facts name next) (name_within r b o facts name next (within-whole r b next h))
+
+make_found-within : (r b : ℕ) (here : Context) (name : Option FunctionName) (f : FunctionNo) (found : Option FunctionFacts) → Within r b (make_found here name f found)
 make_found-within r b here name f None = done-within _ _ _
 make_found-within r b here name f (Some facts) =
-    name-within r b (written_name (slice_get here.script.bodies f.0)) name _ (λ n. made-within r b f facts n _ (λ o. done-within r b (normal (value.Object o))))
+    created-within r b f facts _ (λ o. name-within r b (written_name (slice_get here.script.bodies f.0)) name _ (λ n. named-within r b o facts n _ (done-within r b (normal (value.Object o)))))
 
-pub make_function-within : (r b : ℕ) (here : Context) (name : Option TextId) (f : FunctionNo) → Within r b (make_function here name f)
+pub make_function-within : (r b : ℕ) (here : Context) (name : Option FunctionName) (f : FunctionNo) → Within r b (make_function here name f)
 make_function-within r b here name f = make_found-within r b here name f (slice_get here.script.functions f.0)
 
 -- ---- declared functions

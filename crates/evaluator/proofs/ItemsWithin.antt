@@ -1,11 +1,12 @@
 -- What waits keeps within what a charge gives: each item, and each question.
-use Rattle.std.proofs.Common.{ℕ, ◌+◌, ◌*◌, ◌≤◌, Bool, None, List, [], ◌∷◌, ◌++◌, codes, drop, length, arith}
+use Rattle.std.proofs.Common.{ℕ, ◌+◌, ◌*◌, ◌≤◌, Bool, None, List, [], ◌∷◌, ◌++◌, drop, length, arith}
 use Rattle.std.proofs.lemmas.List.{length-drop}
 use Rattle.property_keys.specs.declared.identifiers.ObjectId.{ObjectId}
 use Rattle.property_keys.specs.declared.keys.PropKey.{PropKey}
 use Rattle.property_keys.specs.declared.values.Value.{Value}
 use Rattle.property_keys.specs.declared.values.Value.TheVariants as value
 use Rattle.descriptors.specs.declared.fields.Descriptor.{Descriptor}
+use Rattle.es_model.specs.declared.running.NamePrefix.TheVariants as name_prefix
 use Rattle.es_model.specs.Program.{Program, define}
 use Rattle.es_tree.specs.declared.numbers.NodeId.{NodeId}
 use Rattle.es_tree.specs.declared.primaries.Property.{Property}
@@ -39,19 +40,19 @@ use Rattle.evaluator.specs.declared.references.Reference.{Reference}
 use Rattle.evaluator.specs.declared.references.Reference.TheVariants as reference
 use Rattle.evaluator.specs.Assignments.{compound_valued}
 use Rattle.evaluator.specs.Calls.{arguments_at}
-use Rattle.evaluator.specs.Contexts.{Context}
+use Rattle.evaluator.specs.Contexts.{Context, given}
 use Rattle.evaluator.specs.Literals.{getter, plain, properties_at, properties_from, setter}
-use Rattle.evaluator.specs.Operators.{comma_at, right_valued}
+use Rattle.evaluator.specs.Operators.{comma_at, minus_converted, right_valued}
 use Rattle.evaluator.specs.Plans.{access_valued, asked_program, ended, flag_answered, item_program, key_answered, literal_valued, made_by, operator_valued, property_keyed, purpose_program, reading_program, reading_valued, statement_item, value_answered}
 use Rattle.evaluator.specs.Statements.{declared_at}
 use Rattle.evaluator.proofs.AccessesWithin.{given-within, key_converted-within, key_valued-within, read_reference-within}
 use Rattle.evaluator.proofs.AssignmentsWithin.{assign_reference-within, compound_reference-within, compound_valued-within, update_converted-within, update_number-within, update_reference-within}
 use Rattle.evaluator.proofs.CallsWithin.{arguments-within, callee_reference-within}
-use Rattle.evaluator.proofs.LiteralsWithin.{definitions-most, key_converted-within as definition_key-within, method_keyed-within, properties-within, proto_of-within, value_keyed-within}
+use Rattle.evaluator.proofs.LiteralsWithin.{definitions-most, key_converted-within as definition_key-within, properties-within, proto_of-within, value_keyed-within}
 use Rattle.evaluator.proofs.OperatorsWithin.{add_primitives-within, apply-within, calculated-within, comma-within, compare-within, flag_given-within, joined-within, minus_converted-within, negated-within, not_value-within, right_number-within, right_primitive-within, right_text-within, right_valued-within, short_value-within, test_value-within, typeof_reference-within, typeof_value-within}
 use Rattle.evaluator.proofs.ReferencesWithin.{delete_reference-within, get_value-within, got_again-within, put_again-within, put_value-within, unless_refused-within}
 use Rattle.evaluator.proofs.StatementsWithin.{after_statement-within, declared_valued-within, finish_try-within, for_again-within, for_begun-within, for_stepped-within, for_valued-within, if_valued-within, last_ended-within, return_valued-within, throw_valued-within, tried_ended-within, while_again-within, while_valued-within}
-use Rattle.evaluator.proofs.WordsWithin.{On, Within, asked-within, change-within, done-within, evaluated-within, flag-within, key-within, look-within, value-within}
+use Rattle.evaluator.proofs.WordsWithin.{On, Within, asked-within, change-within, done-within, evaluated-within, flag-within, key-within, look-within, number-within, primitive-within, string-within, value-within}
 
 -- ---- property definitions
 
@@ -73,13 +74,13 @@ behind-within r here o p ps enough = properties-within r r here o ps (omega arit
 keyed-within : (r b : ℕ) (here : Context) (o : ObjectId) (ps : List Property) (k : PropKey) → 1 ≤ b → 40 * length ps ≤ r → Within r b (property_keyed here o ps k)
 keyed-within r b here o [] k some enough = done-within _ _ _
 keyed-within r b here o (property.Value name v ∷ ps) k some enough =
-    value_keyed-within r b here o v (properties_from here o ps) some (behind-within r here o (property.Value name v) ps enough) k
+    value_keyed-within r b here o name_prefix.Nothing plain v (properties_from here o ps) some (behind-within r here o (property.Value name v) ps enough) k
 keyed-within r b here o (property.Method name m ∷ ps) k some enough =
-    method_keyed-within r b here o [] plain m (properties_from here o ps) some (behind-within r here o (property.Method name m) ps enough) k
+    value_keyed-within r b here o name_prefix.Nothing plain m (properties_from here o ps) some (behind-within r here o (property.Method name m) ps enough) k
 keyed-within r b here o (property.Getter name m ∷ ps) k some enough =
-    method_keyed-within r b here o (codes "get ") getter m (properties_from here o ps) some (behind-within r here o (property.Getter name m) ps enough) k
+    value_keyed-within r b here o name_prefix.Get getter m (properties_from here o ps) some (behind-within r here o (property.Getter name m) ps enough) k
 keyed-within r b here o (property.Setter name m ∷ ps) k some enough =
-    method_keyed-within r b here o (codes "set ") setter m (properties_from here o ps) some (behind-within r here o (property.Setter name m) ps enough) k
+    value_keyed-within r b here o name_prefix.Set setter m (properties_from here o ps) some (behind-within r here o (property.Setter name m) ps enough) k
 keyed-within r b here o (property.Shorthand named ∷ ps) k some enough = done-within _ _ _
 keyed-within r b here o (property.Prototype v ∷ ps) k some enough = done-within _ _ _
 
@@ -117,7 +118,7 @@ reading-within r b here reading.Typeof v some enough = typeof_value-within r b v
 reading-within r b here (reading.Compound op x ref) v some enough =
     evaluated-within r b here None x (compound_valued here op ref v) (omega arith) (compound_valued-within r r here op ref v (omega arith) (omega arith))
 reading-within r b here (reading.Update increment prefix ref) v some enough =
-    asked-within _ _ 35 _ _ (omega arith) (update_converted-within r 35 here increment prefix ref (omega arith) (omega arith))
+    number-within r b 35 v _ (omega arith) (update_converted-within r 35 here increment prefix ref (omega arith) (omega arith))
 reading-within r b here (reading.Shorthand n next o k) v some enough =
     defined-within r b o k (plain v) (properties_from here o (drop next (properties_at here n))) (rest-within r b here o n next (omega arith) (omega arith))
 
@@ -131,8 +132,8 @@ access-within r here (access.KeyValued base read write aim) v enough =
 operator-within : (r : ℕ) (here : Context) (i : OperatorItem) (v : Value) → 200 ≤ r → Within r r (operator_valued here i v)
 operator-within r here operator.DeleteValued v enough = done-within _ _ _
 operator-within r here operator.VoidValued v enough = done-within _ _ _
-operator-within r here operator.PlusValued v enough = asked-within _ _ 0 _ _ (omega arith) (given-within r 0)
-operator-within r here operator.MinusValued v enough = asked-within _ _ 0 _ _ (omega arith) (minus_converted-within r 0)
+operator-within r here operator.PlusValued v enough = number-within r r 0 v given (omega arith) (given-within r 0)
+operator-within r here operator.MinusValued v enough = number-within r r 0 v minus_converted (omega arith) (minus_converted-within r 0)
 operator-within r here operator.NotValued v enough = not_value-within r r v
 operator-within r here (operator.LeftValued op right) v enough =
     evaluated-within r r here None right (right_valued here op v) (omega arith) (right_valued-within r r here op v (omega arith) (omega arith))
@@ -173,11 +174,11 @@ item-within r here (item.Constructor n) enough = λ c. value-within r r _ c (λ 
 value-answered : (r : ℕ) (here : Context) (i : ValueAsked) (v : Value) → 200 + 40 * most_definitions here.script.nodes ≤ r → Within r r (value_answered here i v)
 value-answered r here (value_asked.Read p) v enough = reading-within r r here p v (omega arith) (omega arith)
 value-answered r here value_asked.MinusConverted v enough = negated-within r r v
-value-answered r here (value_asked.LeftPrimitive end right) v enough = asked-within _ _ 61 _ _ (omega arith) (right_primitive-within r 61 here end v (omega arith) (omega arith))
+value-answered r here (value_asked.LeftPrimitive end right) v enough = primitive-within r r 61 right _ (omega arith) (right_primitive-within r 61 here end v (omega arith) (omega arith))
 value-answered r here (value_asked.RightPrimitive end left) v enough = add_primitives-within r r here end left v (omega arith) (omega arith)
-value-answered r here (value_asked.LeftText end right) v enough = asked-within _ _ 35 _ _ (omega arith) (right_text-within r 35 here end v (omega arith) (omega arith))
+value-answered r here (value_asked.LeftText end right) v enough = string-within r r 35 right _ (omega arith) (right_text-within r 35 here end v (omega arith) (omega arith))
 value-answered r here (value_asked.RightText end left) v enough = joined-within r r here end left v (omega arith) (omega arith)
-value-answered r here (value_asked.LeftNumber op end right) v enough = asked-within _ _ 35 _ _ (omega arith) (right_number-within r 35 here op end v (omega arith) (omega arith))
+value-answered r here (value_asked.LeftNumber op end right) v enough = number-within r r 35 right _ (omega arith) (right_number-within r 35 here op end v (omega arith) (omega arith))
 value-answered r here (value_asked.RightNumber op end left) v enough = calculated-within r r here op end left v (omega arith) (omega arith)
 value-answered r here (value_asked.UpdateConverted increment prefix ref) v enough = update_number-within r r here increment prefix ref v (omega arith) (omega arith)
 

@@ -7,6 +7,7 @@ pub mod Belonging
 pub mod Bounded
 pub mod CallsKept
 pub mod CallsWithin
+pub mod Converting
 pub mod Declared
 pub mod Declaring
 pub mod Defining

@@ -1,9 +1,7 @@
 -- Primary expressions keep worlds sound.
-use Rattle.std.proofs.Common.{ℕ, Option, Some, None, List, [], ◌∷◌, ◌++◌, refl, arith}
-use Rattle.std.specs.Prelude.{codes}
+use Rattle.std.proofs.Common.{Option, Some, None, List, [], ◌∷◌, ◌++◌, refl, arith}
 use Rattle.std.proofs.lemmas.List.{length-append}
 use Rattle.property_keys.specs.declared.identifiers.ObjectId.{ObjectId}
-use Rattle.property_keys.specs.declared.identifiers.TextId.{TextId}
 use Rattle.property_keys.specs.declared.keys.PropKey.{PropKey}
 use Rattle.property_keys.specs.declared.values.Value.{Value}
 use Rattle.property_keys.specs.declared.values.Value.TheVariants as value
@@ -21,27 +19,33 @@ use Rattle.es_model.specs.declared.intrinsics.Class.TheVariants as class
 use Rattle.es_model.specs.declared.intrinsics.Intrinsic.TheVariants as intrinsic
 use Rattle.es_model.specs.declared.kinds.ObjectKind.TheVariants as kind_of
 use Rattle.es_model.specs.declared.requests.Request.TheVariants.{SetProto}
+use Rattle.es_model.specs.declared.running.FunctionName.{FunctionName}
+use Rattle.es_model.specs.declared.running.FunctionName.TheVariants as given_name
+use Rattle.es_model.specs.declared.running.NamePrefix.{NamePrefix}
+use Rattle.es_model.specs.declared.running.NamePrefix.TheVariants as name_prefix
 use Rattle.es_model.specs.Events.{Origin}
 use Rattle.es_model.specs.Objects.{new_object_of}
 use Rattle.es_model.specs.World.{Lists, World, new_object}
 use Rattle.es_model.specs.Changes.{Change, Defining, Making, changed, made, with_objects}
 use Rattle.es_model.specs.Program.{Program}
-use Rattle.es_model.specs.Known.{IfThere, IsObject, IsText, IsKnown, IsKnownKey, IsKnownDescriptor}
+use Rattle.es_model.specs.Known.{IfThere, IsObject, IsKnown, IsKnownKey, IsKnownDescriptor}
 use Rattle.es_model.specs.Sound.{IsSound}
-use Rattle.es_model.specs.Kept.{IsLater}
+use Rattle.es_model.specs.Kept.{IsKnownName, IsLater}
 use Rattle.es_model.proofs.Keeping.{later_none, later_then}
 use Rattle.es_model.proofs.SharedKept.{later-changed}
+use Rattle.es_model.proofs.ArrayLengths.{IsNoArray, no_array-later, no_array-leaves}
+use Rattle.es_model.proofs.SoundArrays.{made-no_array}
 use Rattle.es_model.proofs.SoundChanges.{sound-defining, sound-making}
 use Rattle.es_model.proofs.SoundErrors.{noted-objects}
 use Rattle.evaluator.specs.Accesses.{read_reference}
 use Rattle.evaluator.specs.Contexts.{Context, normal}
-use Rattle.evaluator.specs.Literals.{getter, key_converted, key_valued, literal_origin, method_keyed, object_literal, plain, primary_program, properties_at, properties_from, property_key, property_then, property_valued, proto_answered, proto_of, proto_valued, setter, shorthand_keyed, value_keyed, with_name}
+use Rattle.evaluator.specs.Literals.{getter, key_converted, key_valued, literal_origin, object_literal, plain, primary_program, properties_at, properties_from, property_key, property_then, property_valued, proto_answered, proto_of, proto_valued, setter, shorthand_keyed, value_keyed}
 use Rattle.evaluator.specs.References.{prototype_of}
 use Rattle.evaluator.specs.Values.{whole_of}
 use Rattle.evaluator.proofs.AccessesKept.{key_asked-kept, read_reference-kept}
 use Rattle.evaluator.proofs.FunctionsKept.{make_function-kept}
 use Rattle.evaluator.proofs.ReferencesKept.{get_value-kept, resolve-kept}
-use Rattle.evaluator.proofs.WordsKept.{Keeps, done-kept, look-kept, change-kept, IsHere, OnEnd, OnKey, OnText, Onward, asked-kept, evaluated-kept, flag-kept, here-stays, kept-if, key-kept, key-stays, object-stays, onward-stays, or_out-kept, text-kept, value-kept, whole-known, with_key-kept}
+use Rattle.evaluator.proofs.WordsKept.{Keeps, done-kept, look-kept, change-kept, IsHere, OnEnd, OnKey, Onward, asked-kept, evaluated-kept, flag-kept, here-stays, key-kept, key-stays, onward-stays, or_out-kept, text-kept, value-kept, whole-known, with_key-kept}
 
 -- ---- object literals
 
@@ -70,13 +74,11 @@ setter-known l (value.Text t) h = record { value = tt; get = tt; set = tt; sound
 setter-known l (value.Symbol s) h = record { value = tt; get = tt; set = tt; sound = refl }
 setter-known l (value.Object o) h = record { value = tt; get = tt; set = h; sound = refl }
 
-with_name-kept : (w : World) (prefix : List ℕ) (k : PropKey) (next : TextId → Program) → IsSound w → OnText w next → Keeps (with_name prefix k next) w
-with_name-kept w prefix k next s f = look-kept w _ (text-kept w _ next s f)
-
-pub property_valued-kept : (w : World) (o : ObjectId) (k : PropKey) (made : Value → Descriptor) (next : Program) → IsObject w.lists o → IsKnownKey w.lists k → MakesKnown made → Onward w next → OnEnd w (property_valued o k made next)
-property_valued-kept w o k made next there key makes f = λ c v sv l known. value-kept v _ c sv known (λ x h.
+pub property_valued-kept : (w : World) (o : ObjectId) (k : PropKey) (made : Value → Descriptor) (next : Program) → IsNoArray w.lists o → IsKnownKey w.lists k → MakesKnown made → Onward w next → OnEnd w (property_valued o k made next)
+property_valued-kept w o k made next object key makes f = λ c v sv l known. value-kept v _ c sv known (λ x h.
     let d : Change = Defining o k (made x) in
-    look-kept v _ (change-kept v d _ (f (changed d v) (sound-defining v o k (made x) sv (object-stays w v l o there) (key-stays w v l k key) (makes v.lists x h)) (later_then w v (changed d v) l (later-changed d v)))))
+    let later : IsNoArray v.lists o = no_array-later w.lists v.lists l.lists o object in
+    look-kept v _ (change-kept v d _ (f (changed d v) (sound-defining v o k (made x) sv later.there (key-stays w v l k key) (makes v.lists x h) (no_array-leaves v.lists o k (made x).value later.other)) (later_then w v (changed d v) l (later-changed d v)))))
 
 pub key_converted-kept : (w : World) (next : PropKey → Program) → OnKey w next → OnEnd w (key_converted next)
 key_converted-kept w next f = λ c v sv l known. key-kept v next c sv known (λ k key. f k v sv l key)
@@ -89,23 +91,11 @@ property_key-kept : (w : World) (here : Context) (name : Key) (next : PropKey �
 property_key-kept w here (key.Fixed units) next s h f = with_key-kept w units next s f
 property_key-kept w here (key.Computed n) next s h f = evaluated-kept w here None n (key_valued next) s h tt (key_valued-kept w next f)
 
-pub value_keyed-kept : (w : World) (here : Context) (o : ObjectId) (v : NodeId) (next : Program) → IsHere w here → IsObject w.lists o → Onward w next → OnKey w (value_keyed here o v next)
-value_keyed-kept w here o v next h there f = λ k u su l key.
-    let place : IsObject u.lists o = object-stays w u l o there in
-    let onward : Onward u next = onward-stays w u l next f in
-    kept-if u _ _ _
-    (with_name-kept u [] k _ su (λ name x sx later known.
-    evaluated-kept x here (Some name) v (property_valued o k plain next) sx (here-stays w x (later_then w u x l later) here h) known
-    (property_valued-kept x o k plain next (object-stays u x later o place) (key-stays u x later k key) plain-known (onward-stays u x later next onward))))
-    (evaluated-kept u here None v (property_valued o k plain next) su (here-stays w u l here h) tt (property_valued-kept u o k plain next place key plain-known onward))
-
-pub method_keyed-kept : (w : World) (here : Context) (o : ObjectId) (prefix : List ℕ) (made : Value → Descriptor) (m : NodeId) (next : Program) → IsHere w here → IsObject w.lists o → MakesKnown made → Onward w next →
-    OnKey w (method_keyed here o prefix made m next)
-method_keyed-kept w here o prefix made m next h there makes f = λ k u su l key.
-    with_name-kept u prefix k _ su (λ name x sx later known.
-    let all : IsLater w x = later_then w u x l later in
-    evaluated-kept x here (Some name) m (property_valued o k made next) sx (here-stays w x all here h) known
-    (property_valued-kept x o k made next (object-stays w x all o there) (key-stays u x later k key) makes (onward-stays w x all next f)))
+pub value_keyed-kept : (w : World) (here : Context) (o : ObjectId) (before : NamePrefix) (made : Value → Descriptor) (v : NodeId) (next : Program) → IsHere w here → IsNoArray w.lists o → MakesKnown made → Onward w next →
+    OnKey w (value_keyed here o before made v next)
+value_keyed-kept w here o before made v next h object makes f = λ k u su l key.
+    evaluated-kept u here (Some (given_name.Key before k)) v (property_valued o k made next) su (here-stays w u l here h) key
+    (property_valued-kept u o k made next (no_array-later w.lists u.lists l.lists o object) key makes (onward-stays w u l next f))
 
 proto_answered-kept : (w : World) (next : Program) → Onward w next → OnEnd w (proto_answered next)
 proto_answered-kept w next f = λ c v sv l known. flag-kept v _ c sv known (λ succeeded. f v sv l)
@@ -119,31 +109,31 @@ proto_of-kept w o next (value.Whole n) s there known f = f w s (later_none w)
 proto_of-kept w o next (value.Text t) s there known f = f w s (later_none w)
 proto_of-kept w o next (value.Symbol y) s there known f = f w s (later_none w)
 
-pub proto_valued-kept : (w : World) (o : ObjectId) (next : Program) → IsObject w.lists o → Onward w next → OnEnd w (proto_valued o next)
-proto_valued-kept w o next there f = λ c v sv l known. value-kept v (proto_of o next) c sv known (λ x k. proto_of-kept v o next x sv (object-stays w v l o there) k (onward-stays w v l next f))
+pub proto_valued-kept : (w : World) (o : ObjectId) (next : Program) → IsNoArray w.lists o → Onward w next → OnEnd w (proto_valued o next)
+proto_valued-kept w o next object f = λ c v sv l known. value-kept v (proto_of o next) c sv known (λ x k. proto_of-kept v o next x sv (no_array-later w.lists v.lists l.lists o object).there k (onward-stays w v l next f))
 
-shorthand_keyed-kept : (w : World) (here : Context) (o : ObjectId) (named : Named) (next : Program) → IsHere w here → IsObject w.lists o → Onward w next → OnKey w (shorthand_keyed here o named next)
-shorthand_keyed-kept w here o named next h there f = λ k u su l key.
+shorthand_keyed-kept : (w : World) (here : Context) (o : ObjectId) (named : Named) (next : Program) → IsHere w here → IsNoArray w.lists o → Onward w next → OnKey w (shorthand_keyed here o named next)
+shorthand_keyed-kept w here o named next h object f = λ k u su l key.
     resolve-kept u here named _ su (here-stays w u l here h) (λ ref x sx later known.
     let all : IsLater w x = later_then w u x l later in
     get_value-kept x here ref (property_valued o k plain next) sx known
-    (property_valued-kept x o k plain next (object-stays w x all o there) (key-stays u x later k key) plain-known (onward-stays w x all next f)))
+    (property_valued-kept x o k plain next (no_array-later w.lists x.lists all.lists o object) (key-stays u x later k key) plain-known (onward-stays w x all next f)))
 
-pub property_then-kept : (w : World) (here : Context) (o : ObjectId) (p : Property) (next : Program) → IsSound w → IsHere w here → IsObject w.lists o → Onward w next → Keeps (property_then here o p next) w
-property_then-kept w here o (property.Value name v) next s h there f = property_key-kept w here name (value_keyed here o v next) s h (value_keyed-kept w here o v next h there f)
-property_then-kept w here o (property.Shorthand named) next s h there f = with_key-kept w named.name (shorthand_keyed here o named next) s (shorthand_keyed-kept w here o named next h there f)
-property_then-kept w here o (property.Prototype v) next s h there f = evaluated-kept w here None v (proto_valued o next) s h tt (proto_valued-kept w o next there f)
-property_then-kept w here o (property.Method name m) next s h there f =
-    property_key-kept w here name (method_keyed here o [] plain m next) s h (method_keyed-kept w here o [] plain m next h there plain-known f)
-property_then-kept w here o (property.Getter name m) next s h there f =
-    property_key-kept w here name (method_keyed here o (codes "get ") getter m next) s h (method_keyed-kept w here o (codes "get ") getter m next h there getter-known f)
-property_then-kept w here o (property.Setter name m) next s h there f =
-    property_key-kept w here name (method_keyed here o (codes "set ") setter m next) s h (method_keyed-kept w here o (codes "set ") setter m next h there setter-known f)
+pub property_then-kept : (w : World) (here : Context) (o : ObjectId) (p : Property) (next : Program) → IsSound w → IsHere w here → IsNoArray w.lists o → Onward w next → Keeps (property_then here o p next) w
+property_then-kept w here o (property.Value name v) next s h object f = property_key-kept w here name (value_keyed here o name_prefix.Nothing plain v next) s h (value_keyed-kept w here o name_prefix.Nothing plain v next h object plain-known f)
+property_then-kept w here o (property.Shorthand named) next s h object f = with_key-kept w named.name (shorthand_keyed here o named next) s (shorthand_keyed-kept w here o named next h object f)
+property_then-kept w here o (property.Prototype v) next s h object f = evaluated-kept w here None v (proto_valued o next) s h tt (proto_valued-kept w o next object f)
+property_then-kept w here o (property.Method name m) next s h object f =
+    property_key-kept w here name (value_keyed here o name_prefix.Nothing plain m next) s h (value_keyed-kept w here o name_prefix.Nothing plain m next h object plain-known f)
+property_then-kept w here o (property.Getter name m) next s h object f =
+    property_key-kept w here name (value_keyed here o name_prefix.Get getter m next) s h (value_keyed-kept w here o name_prefix.Get getter m next h object getter-known f)
+property_then-kept w here o (property.Setter name m) next s h object f =
+    property_key-kept w here name (value_keyed here o name_prefix.Set setter m next) s h (value_keyed-kept w here o name_prefix.Set setter m next h object setter-known f)
 
-pub properties-kept : (w : World) (here : Context) (o : ObjectId) (ps : List Property) → IsSound w → IsHere w here → IsObject w.lists o → Keeps (properties_from here o ps) w
-properties-kept w here o [] s h there = done-kept w _ s there
-properties-kept w here o (p ∷ ps) s h there =
-    property_then-kept w here o p (properties_from here o ps) s h there (λ v sv l. properties-kept v here o ps sv (here-stays w v l here h) (object-stays w v l o there))
+pub properties-kept : (w : World) (here : Context) (o : ObjectId) (ps : List Property) → IsSound w → IsHere w here → IsNoArray w.lists o → Keeps (properties_from here o ps) w
+properties-kept w here o [] s h object = done-kept w _ s object.there
+properties-kept w here o (p ∷ ps) s h object =
+    property_then-kept w here o p (properties_from here o ps) s h object (λ v sv l. properties-kept v here o ps sv (here-stays w v l here h) (no_array-later w.lists v.lists l.lists o object))
 
 pub object-there : (w : World) (origin : Origin) (p : Option ObjectId) → IsObject (changed (Making kind_of.Ordinary origin p) w).lists (new_object w.lists)
 unfolding changed made
@@ -156,12 +146,12 @@ object-kept w here n literal s h =
     let origin : Origin = literal_origin here.script literal in
     let p : Option ObjectId = Some (prototype_of class.Object) in
     let v : World = changed (Making kind_of.Ordinary origin p) w in
-    look-kept w _ (change-kept w _ _ (properties-kept v here (new_object w.lists) (properties_at here n) (sound-making w kind_of.Ordinary origin p s tt tt (s.intact.start (intrinsic.Prototype class.Object)).0)
-    (here-stays w v (later-changed (Making kind_of.Ordinary origin p) w) here h) (object-there w origin p)))
+    look-kept w _ (change-kept w _ _ (properties-kept v here (new_object w.lists) (properties_at here n) (sound-making w kind_of.Ordinary origin p s tt tt (s.intact.start (intrinsic.Prototype class.Object)).0 refl)
+    (here-stays w v (later-changed (Making kind_of.Ordinary origin p) w) here h) (made-no_array w kind_of.Ordinary origin p refl)))
 
 -- ---- each primary expression
 
-pub primary-kept : (w : World) (here : Context) (name : Option TextId) (n : NodeId) (p : Primary) → IsSound w → IsHere w here → IfThere (IsText w.lists) name → Keeps (primary_program here name n p) w
+pub primary-kept : (w : World) (here : Context) (name : Option FunctionName) (n : NodeId) (p : Primary) → IsSound w → IsHere w here → IfThere (IsKnownName w.lists) name → Keeps (primary_program here name n p) w
 primary-kept w here name n primary.This s h known = done-kept w _ s h.0.this
 primary-kept w here name n (primary.Name named) s h known = resolve-kept w here named (read_reference here) s h (λ ref v sv l there. read_reference-kept v here ref sv there)
 primary-kept w here name n (primary.Number x) s h known = or_out-kept w (whole_of x) _ s (whole-known x) (λ m whole. (done-kept w _ s whole))

@@ -1,8 +1,7 @@
 -- Primary expressions keep within their budgets. A property definition that is a name alone takes no turn, so an object literal asks with each of its definitions.
 use Rattle.std.proofs.Common.{◌≡◌, ℕ, ◌+◌, ◌*◌, ◌≤◌, Option, Some, None, List, [], ◌∷◌, length, refl, arith}
-use Rattle.std.specs.Prelude.{codes, slice_get}
+use Rattle.std.specs.Prelude.{slice_get}
 use Rattle.property_keys.specs.declared.identifiers.ObjectId.{ObjectId}
-use Rattle.property_keys.specs.declared.identifiers.TextId.{TextId}
 use Rattle.property_keys.specs.declared.keys.PropKey.{PropKey}
 use Rattle.property_keys.specs.declared.values.Value.{Value}
 use Rattle.property_keys.specs.declared.values.Value.TheVariants as value
@@ -20,23 +19,23 @@ use Rattle.es_tree.specs.declared.primaries.Property.{Property}
 use Rattle.es_tree.specs.declared.primaries.Property.TheVariants as property
 use Rattle.es_tree.specs.Definitions.{definitions_at, most_definitions}
 use Rattle.es_tree.proofs.LongestLiteral.{most-at}
+use Rattle.es_model.specs.declared.running.FunctionName.{FunctionName}
+use Rattle.es_model.specs.declared.running.NamePrefix.{NamePrefix}
+use Rattle.es_model.specs.declared.running.NamePrefix.TheVariants as name_prefix
 use Rattle.es_model.specs.Program.{Program}
 use Rattle.evaluator.specs.Accesses.{read_reference}
 use Rattle.evaluator.specs.Contexts.{Context, normal}
-use Rattle.evaluator.specs.Literals.{getter, key_converted, key_valued, method_keyed, object_literal, plain, primary_program, properties_from, properties_in, property_key, property_then, property_valued, proto_answered, proto_of, proto_valued, setter, shorthand_keyed, value_keyed, with_name}
+use Rattle.evaluator.specs.Literals.{getter, key_converted, key_valued, object_literal, plain, primary_program, properties_from, properties_in, property_key, property_then, property_valued, proto_answered, proto_of, proto_valued, setter, shorthand_keyed, value_keyed}
 use Rattle.evaluator.specs.Values.{whole_of}
 use Rattle.evaluator.proofs.AccessesWithin.{read_reference-within}
 use Rattle.evaluator.proofs.FunctionsWithin.{make_function-within}
 use Rattle.evaluator.proofs.ReferencesWithin.{get_value-within, resolve-within}
-use Rattle.evaluator.proofs.WordsWithin.{On, Within, asked-within, change-within, cond-within, done-within, evaluated-within, flag-within, key-within, look-within, more-within, or_out-within, text-within, value-within, with_key-within}
+use Rattle.evaluator.proofs.WordsWithin.{On, Within, asked-within, change-within, done-within, evaluated-within, flag-within, key-within, look-within, more-within, or_out-within, text-within, value-within, with_key-within}
 
 -- ---- object literals: what is done with every key, and what comes behind a definition
 
 abbrev pub OnKey : ℕ → ℕ → (PropKey → Program) → Type 0
 OnKey r b next = (k : PropKey) → Within r b (next k)
-
-with_name-within : (r b : ℕ) (prefix : List ℕ) (k : PropKey) (next : TextId → Program) → ((t : TextId) → Within r b (next t)) → Within r b (with_name prefix k next)
-with_name-within r b prefix k next h = look-within _ _ _ (λ l. text-within r b _ next h)
 
 pub property_valued-within : (r b : ℕ) (o : ObjectId) (k : PropKey) (made : Value → Descriptor) (next : Program) → Within r b next → On r b (property_valued o k made next)
 property_valued-within r b o k made next h = λ c. value-within r b _ c (λ v. look-within _ _ _ (λ l. change-within _ _ _ _ h))
@@ -51,15 +50,8 @@ property_key-within : (r b : ℕ) (here : Context) (name : Key) (next : PropKey 
 property_key-within r b here (key.Fixed units) next some enough h = more-within r 1 b _ some (with_key-within r 1 units next h)
 property_key-within r b here (key.Computed n) next some enough h = evaluated-within r b here None n (key_valued next) some (key_valued-within r r next enough h)
 
-pub value_keyed-within : (r b : ℕ) (here : Context) (o : ObjectId) (v : NodeId) (next : Program) → 1 ≤ b → Within r r next → OnKey r b (value_keyed here o v next)
-value_keyed-within r b here o v next some h = λ k.
-    cond-within r b _ _ _
-    (with_name-within r b [] k _ (λ name. evaluated-within r b here (Some name) v (property_valued o k plain next) some (property_valued-within r r o k plain next h)))
-    (evaluated-within r b here None v (property_valued o k plain next) some (property_valued-within r r o k plain next h))
-
-pub method_keyed-within : (r b : ℕ) (here : Context) (o : ObjectId) (prefix : List ℕ) (made : Value → Descriptor) (m : NodeId) (next : Program) → 1 ≤ b → Within r r next → OnKey r b (method_keyed here o prefix made m next)
-method_keyed-within r b here o prefix made m next some h = λ k.
-    with_name-within r b prefix k _ (λ name. evaluated-within r b here (Some name) m (property_valued o k made next) some (property_valued-within r r o k made next h))
+pub value_keyed-within : (r b : ℕ) (here : Context) (o : ObjectId) (before : NamePrefix) (made : Value → Descriptor) (v : NodeId) (next : Program) → 1 ≤ b → Within r r next → OnKey r b (value_keyed here o before made v next)
+value_keyed-within r b here o before made v next some h = λ k. evaluated-within r b here _ v (property_valued o k made next) some (property_valued-within r r o k made next h)
 
 pub proto_answered-within : (r b : ℕ) (next : Program) → Within r b next → On r b (proto_answered next)
 proto_answered-within r b next h = λ c. flag-within r b _ c (λ x. h)
@@ -82,20 +74,20 @@ shorthand_keyed-within r b left here o named next some enough h = λ k.
 
 pub property_then-within : (r b left : ℕ) (here : Context) (o : ObjectId) (p : Property) (next : Program) → left + 6 ≤ b → left + 16 ≤ r → Within r left next → Within r b (property_then here o p next)
 property_then-within r b left here o (property.Value name v) next some enough h =
-    property_key-within r b here name (value_keyed here o v next) (omega arith) (omega arith) (value_keyed-within r 1 here o v next (omega arith) (more-within r left r next (omega arith) h))
+    property_key-within r b here name (value_keyed here o name_prefix.Nothing plain v next) (omega arith) (omega arith) (value_keyed-within r 1 here o name_prefix.Nothing plain v next (omega arith) (more-within r left r next (omega arith) h))
 property_then-within r b left here o (property.Shorthand named) next some enough h =
     with_key-within r b named.name (shorthand_keyed here o named next) (shorthand_keyed-within r b left here o named next some (omega arith) h)
 property_then-within r b left here o (property.Prototype v) next some enough h =
     evaluated-within r b here None v (proto_valued o next) (omega arith) (proto_valued-within r r left o next (omega arith) h)
 property_then-within r b left here o (property.Method name m) next some enough h =
-    property_key-within r b here name (method_keyed here o [] plain m next) (omega arith) (omega arith)
-    (method_keyed-within r 1 here o [] plain m next (omega arith) (more-within r left r next (omega arith) h))
+    property_key-within r b here name (value_keyed here o name_prefix.Nothing plain m next) (omega arith) (omega arith)
+    (value_keyed-within r 1 here o name_prefix.Nothing plain m next (omega arith) (more-within r left r next (omega arith) h))
 property_then-within r b left here o (property.Getter name m) next some enough h =
-    property_key-within r b here name (method_keyed here o (codes "get ") getter m next) (omega arith) (omega arith)
-    (method_keyed-within r 1 here o (codes "get ") getter m next (omega arith) (more-within r left r next (omega arith) h))
+    property_key-within r b here name (value_keyed here o name_prefix.Get getter m next) (omega arith) (omega arith)
+    (value_keyed-within r 1 here o name_prefix.Get getter m next (omega arith) (more-within r left r next (omega arith) h))
 property_then-within r b left here o (property.Setter name m) next some enough h =
-    property_key-within r b here name (method_keyed here o (codes "set ") setter m next) (omega arith) (omega arith)
-    (method_keyed-within r 1 here o (codes "set ") setter m next (omega arith) (more-within r left r next (omega arith) h))
+    property_key-within r b here name (value_keyed here o name_prefix.Set setter m next) (omega arith) (omega arith)
+    (value_keyed-within r 1 here o name_prefix.Set setter m next (omega arith) (more-within r left r next (omega arith) h))
 
 -- what a definition asks for is fewer than 40
 pub properties-within : (r b : ℕ) (here : Context) (o : ObjectId) (ps : List Property) → 40 * length ps ≤ b → 40 * length ps ≤ r → Within r b (properties_from here o ps)
@@ -133,7 +125,7 @@ object-within r here n literal enough = look-within _ _ _ (λ l.
 
 -- ---- each primary expression
 
-pub primary-within : (r : ℕ) (here : Context) (name : Option TextId) (n : NodeId) (p : Primary) → 200 + 40 * most_definitions here.script.nodes ≤ r → Within r r (primary_program here name n p)
+pub primary-within : (r : ℕ) (here : Context) (name : Option FunctionName) (n : NodeId) (p : Primary) → 200 + 40 * most_definitions here.script.nodes ≤ r → Within r r (primary_program here name n p)
 primary-within r here name n primary.This enough = done-within _ _ _
 primary-within r here name n (primary.Name named) enough =
     resolve-within r r 4 here named (read_reference here) (omega arith) (λ ref. read_reference-within r 4 here ref (omega arith) (omega arith))

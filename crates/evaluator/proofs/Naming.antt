@@ -1,18 +1,22 @@
 -- Names of functions are put together, over plain variables.
-use Rattle.std.proofs.Common.{◌≡◌, ◌≤◌, ◌<◌, ℕ, Bool, true, false, Option, Some, None, List, [], ◌+◌, ◌++◌, length, length-append, nat_le, is_some, take, sym, ◌∙◌, ap, arith, append_assoc, cond, refl}
+use Rattle.std.proofs.Common.{◌≡◌, ◌≤◌, ◌<◌, ℕ, Bool, true, false, Option, Some, None, List, [], ◌+◌, ◌++◌, length, length-append, nat_le, is_some, take, IfSome, sym, ◌∙◌, ap, arith, append_assoc, cond, refl}
 use Rattle.std.proofs.lemmas.Bool.{false≢true}
 use Rattle.std.proofs.lemmas.Bool.Decides.{nat_tests}
 use Rattle.std.proofs.lemmas.List.{append-nil, length-take-le, take_all}
 use Rattle.property_keys.specs.Limits.{most_units}
 use Rattle.property_keys.specs.declared.identifiers.TextId.{TextId}
 use Rattle.property_keys.specs.declared.keys.PropKey.{PropKey}
+use Rattle.es_model.specs.declared.running.NamePrefix.{NamePrefix}
 use Rattle.es_model.specs.Changes.{Interning, changed}
-use Rattle.es_model.specs.Program.{Program, intern}
+use Rattle.es_model.specs.Program.{intern}
 use Rattle.es_model.specs.Stages.{stage_of}
 use Rattle.es_model.specs.World.{World, number_of}
+use Rattle.object_heap.specs.Stands.{HeapView, Goes, StandsFor}
 use Rattle.evaluator.specs.Errors.{text_too_long}
 use Rattle.evaluator.specs.Lists.{Appends}
-use Rattle.evaluator.specs.Literals.{name_units, with_name}
+use Rattle.evaluator.specs.Plans.{named_world}
+use Rattle.evaluator.specs.Entering.{Makes}
+use Rattle.evaluator.specs.Functions.{name_units, prefix_units, with_name}
 use Rattle.evaluator.proofs.Joining.{text_stage}
 
 -- nothing behind a text
@@ -53,15 +57,17 @@ appends_full a more b c n e left full =
     let over : most_units < length a + length more = omega arith in
     record { limit = grind (arith, nat_tests, over); units = λ is. absurd (false≢true is) }
 
--- ---- a name that a key gives, where it is short enough
+-- ---- a name that a key gives, or none where it is too long
 
-pub name_stage : (prefix : List ℕ) (k : PropKey) (next : TextId → Program) (w : World) (x : Option TextId) (id : TextId) → x ≡ Some id →
-    nat_le (length (prefix ++ name_units w.lists k)) most_units ≡ is_some x → id ≡ number_of w.lists (prefix ++ name_units w.lists k) →
-    stage_of (with_name prefix k next) w ≡ stage_of (next id) (changed (Interning (prefix ++ name_units w.lists k)) w)
-name_stage prefix k next w x id found fits number = text_stage (prefix ++ name_units w.lists k) next w id (fits ∙ ap is_some found) number
-
--- where it is too long
-pub name_too_long : (prefix : List ℕ) (k : PropKey) (next : TextId → Program) (w : World) (x : Option TextId) → x ≡ None →
-    nat_le (length (prefix ++ name_units w.lists k)) most_units ≡ is_some x → stage_of (with_name prefix k next) w ≡ stage_of text_too_long w
-name_too_long prefix k next w x none long =
-    ap (λ (c : Bool). stage_of (cond c (intern (prefix ++ name_units w.lists k) next) text_too_long) w) (long ∙ ap is_some none)
+pub name_made : (a b : HeapView) (w : World) (before : NamePrefix) (k : PropKey) (x : Option TextId) →
+    nat_le (length (prefix_units before ++ name_units w.lists k)) most_units ≡ is_some x → IfSome x (λ id. (v : World) → StandsFor a v → id ≡ number_of v.lists (prefix_units before ++ name_units v.lists k)) →
+    Goes a b w (named_world w before k x) → StandsFor a w → Makes a b w (with_name before k) x
+name_made a b w before k (Some id) fits number goes h = (
+  changed (Interning (prefix_units before ++ name_units w.lists k)) w,
+  goes,
+  λ next. text_stage (prefix_units before ++ name_units w.lists k) next w id fits (number w h),
+)
+name_made a b w before k None long number goes h = (
+  goes,
+  λ next. ap (λ (c : Bool). stage_of (cond c (intern (prefix_units before ++ name_units w.lists k) next) text_too_long) w) long,
+)

@@ -1,6 +1,6 @@
 -- Operators keep worlds sound.
 use Rattle.std.proofs.Common.{ℕ, ℤ, Bool, true, false, cond, Option, Some, None, List, [], ◌∷◌, refl, arith}
-use Rattle.std.specs.Prelude.{◌+ℤ◌, ◌-ℤ◌, ◌*ℤ◌, codes, int_rem, neg_ℤ, pos, ⊤}
+use Rattle.std.specs.Prelude.{◌+ℤ◌, ◌-ℤ◌, ◌*ℤ◌, codes, int_lt, int_rem, neg_ℤ, pos, ⊤}
 use Rattle.std.specs.Ordering.{int_eq}
 use Rattle.property_keys.specs.declared.identifiers.ObjectId.{ObjectId}
 use Rattle.property_keys.specs.declared.values.Value.{Value}
@@ -18,13 +18,15 @@ use Rattle.es_tree.specs.declared.numbers.NodeId.{NodeId}
 use Rattle.es_tree.specs.declared.primaries.Primary.TheVariants as primary
 use Rattle.es_model.specs.declared.requests.Operation.TheVariants as operation
 use Rattle.es_model.specs.declared.requests.Request.TheVariants.{Has, Work}
-use Rattle.es_model.specs.Completions.{Completion}
+use Rattle.es_model.specs.declared.answers.Reply.TheVariants as reply
+use Rattle.es_model.specs.Completions.{Completion, Normal}
 use Rattle.es_model.specs.World.{Lists, World, kind}
 use Rattle.es_model.specs.Program.{Program, ask, done}
 use Rattle.es_model.specs.Known.{IsObject, IfThere, IsKnown}
 use Rattle.es_model.specs.Sound.{IsShort, IsSound}
 use Rattle.es_model.specs.Kept.{IsLater}
 use Rattle.es_model.specs.programs.Testing.{is_callable_kind}
+use Rattle.es_model.proofs.Keeping.{later_none}
 use Rattle.evaluator.specs.declared.references.Arithmetic.{Arithmetic}
 use Rattle.evaluator.specs.declared.references.Arithmetic.TheVariants as arithmetic
 use Rattle.evaluator.specs.declared.references.Finish.{Finish}
@@ -192,6 +194,7 @@ flag_denied-kept : (w : World) → OnEnd w flag_denied
 flag_denied-kept w = λ c v sv l known. flag-kept v _ c sv known (λ b. (done-kept v _ sv tt))
 
 is_less-kept : (w : World) (a right : Value) (left_first : Bool) (next : Completion → Program) → IsSound w → IsKnown w.lists a → IsKnown w.lists right → OnEnd w next → Keeps (is_less a right left_first next) w
+is_less-kept w (value.Whole n) (value.Whole m) left_first next s first there f = f (Normal (reply.Flag (int_lt n m))) w s (later_none w) tt
 is_less-kept w a right left_first next s first there f = asked-kept w (Work operation.LessThan (a ∷ right ∷ value.Bool left_first ∷ [])) next s (tt, (first, (there, (tt, tt)))) f
 
 in_keyed-kept : (w : World) (o : ObjectId) → IsObject w.lists o → OnEnd w (in_keyed o)

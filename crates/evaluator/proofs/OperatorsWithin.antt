@@ -1,6 +1,6 @@
 -- Operators keep within their budgets: `+` with two conversions to primitive values, two to texts and a write asks most, 83.
 use Rattle.std.proofs.Common.{ℕ, ◌≤◌, Bool, true, false, Option, Some, None, List, [], ◌∷◌, arith}
-use Rattle.std.specs.Prelude.{◌||◌, neg_ℤ}
+use Rattle.std.specs.Prelude.{◌||◌, int_lt, neg_ℤ}
 use Rattle.property_keys.specs.declared.identifiers.ObjectId.{ObjectId}
 use Rattle.property_keys.specs.declared.values.Value.{Value}
 use Rattle.property_keys.specs.declared.values.Value.TheVariants as value
@@ -15,7 +15,8 @@ use Rattle.es_tree.specs.declared.node.Node.TheVariants as node
 use Rattle.es_tree.specs.declared.numbers.NodeId.{NodeId}
 use Rattle.es_tree.specs.declared.primaries.Primary.TheVariants as primary
 use Rattle.es_model.specs.declared.kinds.ErrorKind.TheVariants as error
-use Rattle.es_model.specs.Completions.{Completion}
+use Rattle.es_model.specs.declared.answers.Reply.TheVariants as reply
+use Rattle.es_model.specs.Completions.{Completion, Normal}
 use Rattle.es_model.specs.Program.{Program}
 use Rattle.evaluator.specs.declared.references.Arithmetic.{Arithmetic}
 use Rattle.evaluator.specs.declared.references.Arithmetic.TheVariants as arithmetic
@@ -23,13 +24,13 @@ use Rattle.evaluator.specs.declared.references.Finish.{Finish}
 use Rattle.evaluator.specs.declared.references.Finish.TheVariants as finish
 use Rattle.evaluator.specs.declared.references.Reference.{Reference}
 use Rattle.evaluator.specs.declared.references.Reference.TheVariants as reference
-use Rattle.evaluator.specs.Contexts.{Context, node_at, normal}
+use Rattle.evaluator.specs.Contexts.{Context, node_at, normal, given}
 use Rattle.evaluator.specs.Operators.{add_primitives, apply, calculated, comma_from, compare, delete_at, delete_valued, finished, flag_denied, flag_given, goes_right, in_keyed, is_in, is_less, joined, left_number, left_primitive, left_text, left_valued, minus_converted, minus_valued, negated, not_valued, not_value, numbers, plus_valued, right_number, right_primitive, right_text, right_valued, short_valued, short_value, test_valued, test_value, typeof_at, typeof_reference, typeof_valued, typeof_value, unary_expression, void_valued}
 use Rattle.evaluator.specs.References.{delete_reference}
 use Rattle.evaluator.specs.Values.{calculate, is_text, whole_of}
 use Rattle.evaluator.proofs.AccessesWithin.{access_reference-within, given-within}
 use Rattle.evaluator.proofs.ReferencesWithin.{delete_reference-within, get_value-within, put_value-within, resolve-within}
-use Rattle.evaluator.proofs.WordsWithin.{On, Within, asked-within, charged-within, cond-within, done-within, error_thrown, evaluated-within, flag-within, interned-within, join-within, key-within, look-within, or_out-within, value-within, last_node-within}
+use Rattle.evaluator.proofs.WordsWithin.{On, Within, asked-within, charged-within, cond-within, done-within, error_thrown, evaluated-within, flag-within, interned-within, join-within, key-within, look-within, more-within, number-within, or_out-within, primitive-within, string-within, value-within, last_node-within}
 
 -- ---- unary operators
 
@@ -66,7 +67,7 @@ typeof_at-within r b here n (Some (node.Primary (primary.Name named))) some enou
 typeof_at-within r b here n other some enough = evaluated-within r b here None n typeof_valued some (typeof_valued-within r r)
 
 pub plus_valued-within : (r b : ℕ) → 13 ≤ b → On r b plus_valued
-plus_valued-within r b some = λ c. value-within r b _ c (λ v. (asked-within _ _ 0 _ _ (omega arith) (given-within r 0)))
+plus_valued-within r b some = λ c. value-within r b _ c (λ v. number-within r b 0 v given (omega arith) (given-within r 0))
 
 pub negated-within : (r b : ℕ) (v : Value) → Within r b (negated v)
 negated-within r b value.Undefined = done-within _ _ _
@@ -81,7 +82,7 @@ pub minus_converted-within : (r b : ℕ) → On r b minus_converted
 minus_converted-within r b = λ c. value-within r b negated c (negated-within r b)
 
 pub minus_valued-within : (r b : ℕ) → 13 ≤ b → On r b minus_valued
-minus_valued-within r b some = λ c. value-within r b _ c (λ v. (asked-within _ _ 0 _ _ (omega arith) (minus_converted-within r 0)))
+minus_valued-within r b some = λ c. value-within r b _ c (λ v. number-within r b 0 v minus_converted (omega arith) (minus_converted-within r 0))
 
 pub not_value-within : (r b : ℕ) (v : Value) → Within r b (not_value v)
 not_value-within r b v = look-within _ _ _ (λ l. (done-within _ _ _))
@@ -112,10 +113,10 @@ pub right_number-within : (r b : ℕ) (here : Context) (op : Arithmetic) (end : 
 right_number-within r b here op end a some enough = λ c. value-within r b _ c (λ x. calculated-within r b here op end a x some enough)
 
 pub left_number-within : (r b : ℕ) (here : Context) (op : Arithmetic) (end : Finish) (right : Value) → 48 ≤ b → 33 ≤ r → On r b (left_number here op end right)
-left_number-within r b here op end right some enough = λ c. value-within r b _ c (λ a. (asked-within _ _ 35 _ _ (omega arith) (right_number-within r 35 here op end a (omega arith) enough)))
+left_number-within r b here op end right some enough = λ c. value-within r b _ c (λ a. number-within r b 35 right _ (omega arith) (right_number-within r 35 here op end a (omega arith) enough))
 
 numbers-within : (r b : ℕ) (here : Context) (op : Arithmetic) (end : Finish) (a right : Value) → 61 ≤ b → 33 ≤ r → Within r b (numbers here op end a right)
-numbers-within r b here op end a right some enough = (asked-within _ _ 48 _ _ (omega arith) (left_number-within r 48 here op end right (omega arith) enough))
+numbers-within r b here op end a right some enough = number-within r b 48 a _ (omega arith) (left_number-within r 48 here op end right (omega arith) enough)
 
 pub joined-within : (r b : ℕ) (here : Context) (end : Finish) (a right : Value) → 35 ≤ b → 33 ≤ r → Within r b (joined here end a right)
 joined-within r b here end (value.Text a) (value.Text c) some enough = join-within r b a c _ (λ t. finished-within r b here end (value.Text t) some enough)
@@ -125,20 +126,20 @@ pub right_text-within : (r b : ℕ) (here : Context) (end : Finish) (a : Value) 
 right_text-within r b here end a some enough = λ c. value-within r b _ c (λ x. joined-within r b here end a x some enough)
 
 pub left_text-within : (r b : ℕ) (here : Context) (end : Finish) (right : Value) → 48 ≤ b → 33 ≤ r → On r b (left_text here end right)
-left_text-within r b here end right some enough = λ c. value-within r b _ c (λ a. (asked-within _ _ 35 _ _ (omega arith) (right_text-within r 35 here end a (omega arith) enough)))
+left_text-within r b here end right some enough = λ c. value-within r b _ c (λ a. string-within r b 35 right _ (omega arith) (right_text-within r 35 here end a (omega arith) enough))
 
 pub add_primitives-within : (r b : ℕ) (here : Context) (end : Finish) (a right : Value) → 61 ≤ b → 33 ≤ r → Within r b (add_primitives here end a right)
 add_primitives-within r b here end a right some enough =
-    cond-within r b (is_text a || is_text right) _ _ (asked-within _ _ 48 _ _ (omega arith) (left_text-within r 48 here end right (omega arith) enough)) (numbers-within r b here arithmetic.Add end a right some enough)
+    cond-within r b (is_text a || is_text right) _ _ (string-within r b 48 a _ (omega arith) (left_text-within r 48 here end right (omega arith) enough)) (numbers-within r b here arithmetic.Add end a right some enough)
 
 pub right_primitive-within : (r b : ℕ) (here : Context) (end : Finish) (a : Value) → 61 ≤ b → 33 ≤ r → On r b (right_primitive here end a)
 right_primitive-within r b here end a some enough = λ c. value-within r b _ c (λ x. add_primitives-within r b here end a x some enough)
 
 pub left_primitive-within : (r b : ℕ) (here : Context) (end : Finish) (right : Value) → 72 ≤ b → 33 ≤ r → On r b (left_primitive here end right)
-left_primitive-within r b here end right some enough = λ c. value-within r b _ c (λ a. (asked-within _ _ 61 _ _ (omega arith) (right_primitive-within r 61 here end a (omega arith) enough)))
+left_primitive-within r b here end right some enough = λ c. value-within r b _ c (λ a. primitive-within r b 61 right _ (omega arith) (right_primitive-within r 61 here end a (omega arith) enough))
 
 pub apply-within : (r b : ℕ) (here : Context) (op : Arithmetic) (end : Finish) (a right : Value) → 83 ≤ b → 33 ≤ r → Within r b (apply here op end a right)
-apply-within r b here arithmetic.Add end a right some enough = (asked-within _ _ 72 _ _ (omega arith) (left_primitive-within r 72 here end right (omega arith) enough))
+apply-within r b here arithmetic.Add end a right some enough = primitive-within r b 72 a _ (omega arith) (left_primitive-within r 72 here end right (omega arith) enough)
 apply-within r b here arithmetic.Subtract end a right some enough = numbers-within r b here arithmetic.Subtract end a right (omega arith) enough
 apply-within r b here arithmetic.Multiply end a right some enough = numbers-within r b here arithmetic.Multiply end a right (omega arith) enough
 apply-within r b here arithmetic.Remainder end a right some enough = numbers-within r b here arithmetic.Remainder end a right (omega arith) enough
@@ -152,6 +153,7 @@ pub flag_denied-within : (r b : ℕ) → On r b flag_denied
 flag_denied-within r b = λ c. flag-within r b _ c (λ x. (done-within _ _ _))
 
 is_less-within : (r b : ℕ) (a right : Value) (left_first : Bool) (next : Completion → Program) → 41 ≤ b → On r 0 next → Within r b (is_less a right left_first next)
+is_less-within r b (value.Whole n) (value.Whole m) left_first next some h = more-within r 0 b _ (omega arith) (h (Normal (reply.Flag (int_lt n m))))
 is_less-within r b a right left_first next some h = (asked-within _ _ 0 _ _ (omega arith) h)
 
 pub in_keyed-within : (r b : ℕ) (o : ObjectId) → 2 ≤ b → On r b (in_keyed o)

@@ -24,7 +24,7 @@ use Rattle.es_model.specs.Program.{Program}
 use Rattle.es_model.specs.Known.{IsObject, IsText, IfThere, IsKnown, IsKnownKey}
 use Rattle.es_model.specs.Fits.{IsKnownCompletion}
 use Rattle.es_model.specs.Sound.{IsShort, IsSound}
-use Rattle.es_model.specs.Kept.{IsLater}
+use Rattle.es_model.specs.Kept.{IsKnownName, IsLater}
 use Rattle.es_model.proofs.Keeping.{later_none, later_then}
 use Rattle.es_model.proofs.SharedKept.{later-changed, whole-of}
 use Rattle.es_model.proofs.SoundChanges.{sound-cell_set}
@@ -58,7 +58,7 @@ reference-stays w v l (reference.Property base k read write) h = (value-stays w 
 pub references-stay : (w v : World) → IsLater w v → (next : Reference → Program) → OnReference w next → OnReference v next
 references-stay w v l next f = λ ref u s later known. f ref u s (later_then w v u l later) known
 
-pub name-known : (w : World) (ref : Reference) → IsKnownReference w.lists ref → IfThere (IsText w.lists) (name_of ref)
+pub name-known : (w : World) (ref : Reference) → IsKnownReference w.lists ref → IfThere (IsKnownName w.lists) (name_of ref)
 name-known w (reference.Cell name c constant) h = h
 name-known w (reference.Global name k present) h = h.0
 name-known w (reference.Arguments x) h = tt

@@ -1,7 +1,7 @@
 -- A server that does for each task of a body what the task's program says does so for each job.
 use Rattle.std.proofs.Common.{◌≡◌, ℕ, List, Option}
-use Rattle.property_keys.specs.declared.identifiers.TextId.{TextId}
 use Rattle.es_tree.specs.declared.numbers.NodeId.{NodeId}
+use Rattle.es_model.specs.declared.running.FunctionName.{FunctionName}
 use Rattle.es_model.specs.declared.kinds.CellNo.{CellNo}
 use Rattle.es_model.specs.declared.running.Part.{Part}
 use Rattle.es_model.specs.declared.running.Running.{Running}
@@ -15,7 +15,7 @@ use Rattle.evaluator.specs.Plans.{job_program, task_of}
 use Rattle.evaluator.specs.Tasks.{node_program, round_program, statements_program}
 
 pub record ServesTasks (S : Server) : Type 0 where
-  pub nodes : (r : Running) (cells : List CellNo) (name : Option TextId) (x : NodeId) (n : ℕ) (w : World) → S n (Evaluating r cells name x) w ≡ run S (node_program w.script r cells name x) n w
+  pub nodes : (r : Running) (cells : List CellNo) (name : Option FunctionName) (x : NodeId) (n : ℕ) (w : World) → S n (Evaluating r cells name x) w ≡ run S (node_program w.script r cells name x) n w
   pub rounds : (r : Running) (cells : List CellNo) (x : NodeId) (n : ℕ) (w : World) → S n (Round r cells x) w ≡ run S (round_program w.script r cells x) n w
   pub statements : (r : Running) (cells : List CellNo) (list : Part) (i n : ℕ) (w : World) → S n (Statements r cells list i) w ≡ run S (statements_program w.script r cells list i) n w
 

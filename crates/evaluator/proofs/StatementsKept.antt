@@ -14,6 +14,7 @@ use Rattle.es_tree.specs.declared.statements.Catch.{Catch}
 use Rattle.es_tree.specs.declared.statements.Declared.{Declared}
 use Rattle.es_tree.specs.declared.statements.Statement.{Statement}
 use Rattle.es_tree.specs.declared.statements.Statement.TheVariants as statement
+use Rattle.es_model.specs.declared.running.FunctionName.TheVariants as given_name
 use Rattle.es_model.specs.declared.kinds.CellNo.{CellNo}
 use Rattle.es_model.specs.declared.running.Part.{Part}
 use Rattle.es_model.specs.declared.running.Part.TheVariants as part_of
@@ -110,7 +111,7 @@ block_last-kept w here block list s h = scope-kept w here block.names _ s h (λ 
 declare_first-kept : (w : World) (here : Context) (d : Declared) (n : Option NodeId) (next : Program) → IsSound w → IsHere w here → Onward w next → Keeps (declare_first here d n next) w
 declare_first-kept w here d None next s h f = initialise-kept w here d.named.binding value.Undefined next s tt f
 declare_first-kept w here d (Some n) next s h f = text-kept w d.named.name _ s (λ name v sv l known.
-    evaluated-kept v here (Some name) n _ sv (here-stays w v l here h) known (λ c u su later k.
+    evaluated-kept v here (Some (given_name.Text name)) n _ sv (here-stays w v l here h) known (λ c u su later k.
     value-kept u _ c su k (λ x there. initialise-kept u here d.named.binding x next su there (onward-stays w u (later_then w v u l later) next f))))
 
 pub declare_all-kept : (w : World) (here : Context) (ds : List Declared) → IsSound w → IsHere w here → Keeps (declare_all here ds) w

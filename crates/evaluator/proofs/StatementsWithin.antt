@@ -11,6 +11,7 @@ use Rattle.es_tree.specs.declared.statements.Catch.{Catch}
 use Rattle.es_tree.specs.declared.statements.Declared.{Declared}
 use Rattle.es_tree.specs.declared.statements.Statement.{Statement}
 use Rattle.es_tree.specs.declared.statements.Statement.TheVariants as statement
+use Rattle.es_model.specs.declared.running.FunctionName.TheVariants as given_name
 use Rattle.es_model.specs.declared.kinds.CellNo.{CellNo}
 use Rattle.es_model.specs.declared.running.Part.{Part}
 use Rattle.es_model.specs.declared.running.Part.TheVariants as part_of
@@ -59,7 +60,7 @@ block_last-within r b here block list some = scope-within r b here block.names _
 declare_first-within : (r b : ℕ) (here : Context) (d : Declared) (v : Option NodeId) (next : Program) → 1 ≤ b → Within r b next → Within r r next → Within r b (declare_first here d v next)
 declare_first-within r b here d None next some h onward = change-within _ _ _ _ h
 declare_first-within r b here d (Some n) next some h onward = text-within r b d.named.name _ (λ name.
-    evaluated-within r b here (Some name) n _ some (λ c. value-within r r _ c (λ x. change-within _ _ (SettingCell (bound_cell here d.named.binding) x) _ onward)))
+    evaluated-within r b here (Some (given_name.Text name)) n _ some (λ c. value-within r r _ c (λ x. change-within _ _ (SettingCell (bound_cell here d.named.binding) x) _ onward)))
 
 pub declare_all-within : (r b : ℕ) (here : Context) (ds : List Declared) → 1 ≤ b → 1 ≤ r → Within r b (declare_all here ds)
 declare_all-within r b here [] some enough = done-within _ _ _

@@ -1,7 +1,6 @@
 -- The tasks of a running body keep worlds sound.
 use Rattle.std.proofs.Common.{ℕ, Option, Some, None, List, refl}
 use Rattle.std.specs.Prelude.{slice_get}
-use Rattle.property_keys.specs.declared.identifiers.TextId.{TextId}
 use Rattle.property_keys.specs.declared.values.Value.TheVariants as value
 use Rattle.es_tree.specs.declared.expressions.Access.{Access}
 use Rattle.es_tree.specs.declared.expressions.Access.TheVariants as access
@@ -10,14 +9,15 @@ use Rattle.es_tree.specs.declared.expressions.Operator.TheVariants as operator
 use Rattle.es_tree.specs.declared.node.Node.{Node}
 use Rattle.es_tree.specs.declared.node.Node.TheVariants as node
 use Rattle.es_tree.specs.declared.numbers.NodeId.{NodeId}
+use Rattle.es_model.specs.declared.running.FunctionName.{FunctionName}
 use Rattle.es_model.specs.declared.kinds.CellNo.{CellNo}
 use Rattle.es_model.specs.declared.running.Part.{Part}
 use Rattle.es_model.specs.declared.running.Running.{Running}
 use Rattle.es_model.specs.World.{World}
 use Rattle.es_model.specs.Program.{Evaluating, Statements, Round}
-use Rattle.es_model.specs.Known.{IfThere, IsText}
+use Rattle.es_model.specs.Known.{IfThere}
 use Rattle.es_model.specs.Sound.{IsSound}
-use Rattle.es_model.specs.Kept.{FitsTask, IsKept, IsKnownTask}
+use Rattle.es_model.specs.Kept.{FitsTask, IsKept, IsKnownName, IsKnownTask}
 use Rattle.es_model.proofs.KnownLater.{there-map}
 use Rattle.evaluator.specs.Accesses.{read_reference}
 use Rattle.evaluator.specs.Assignments.{update_reference}
@@ -31,7 +31,7 @@ use Rattle.evaluator.proofs.CallsKept.{call-kept, new-kept}
 use Rattle.evaluator.proofs.LiteralsKept.{primary-kept}
 use Rattle.evaluator.proofs.OperatorsKept.{comma-kept, left_valued-kept, short_valued-kept, test_valued-kept, unary-kept}
 use Rattle.evaluator.proofs.StatementsKept.{round_of-kept, statement-kept, statement_at-kept}
-use Rattle.evaluator.proofs.WordsKept.{Keeps, kept-whole, done-kept, IsHere, charged-kept, evaluated-kept, here-stays, text-stays}
+use Rattle.evaluator.proofs.WordsKept.{Keeps, kept-whole, done-kept, IsHere, charged-kept, evaluated-kept, here-stays, name-stays}
 
 operator-kept : (w : World) (here : Context) (n : NodeId) (o : Operator) → IsSound w → IsHere w here → Keeps (operator_program here n o) w
 operator-kept w here n (operator.Comma items) s h = comma-kept w here items value.Undefined s h tt
@@ -51,7 +51,7 @@ access-kept w here n (access.Index base key read write) s h =
 access-kept w here n (access.Call callee arguments) s h = call-kept w here n callee s h
 access-kept w here n (access.New callee arguments) s h = new-kept w here n callee s h
 
-node_of-kept : (w : World) (here : Context) (name : Option TextId) (n : NodeId) (found : Option Node) → IsSound w → IsHere w here → IfThere (IsText w.lists) name → Keeps (node_of here name n found) w
+node_of-kept : (w : World) (here : Context) (name : Option FunctionName) (n : NodeId) (found : Option Node) → IsSound w → IsHere w here → IfThere (IsKnownName w.lists) name → Keeps (node_of here name n found) w
 node_of-kept w here name n None s h known = done-kept w _ s tt
 node_of-kept w here name n (Some (node.Statement p)) s h known = statement-kept w here n p s h
 node_of-kept w here name n (Some (node.Operator o)) s h known = operator-kept w here n o s h
@@ -60,12 +60,12 @@ node_of-kept w here name n (Some (node.Primary p)) s h known = primary-kept w he
 
 -- ---- the tasks
 
-pub node-kept : (w : World) (body : Running) (cells : List CellNo) (name : Option TextId) (n : NodeId) → IsSound w → IsKnownTask w.script w.lists (Evaluating body cells name n) →
+pub node-kept : (w : World) (body : Running) (cells : List CellNo) (name : Option FunctionName) (n : NodeId) → IsSound w → IsKnownTask w.script w.lists (Evaluating body cells name n) →
     IsKept (FitsTask (Evaluating body cells name n)) (node_program w.script body cells name n) w
 node-kept w body cells name n s h =
     let here : Context = context w.script body cells in
     kept-whole (node_program w.script body cells name n) w (charged-kept w (node_of here name n (slice_get w.script.nodes n.0)) s (λ v sv l.
-    node_of-kept v here name n (slice_get w.script.nodes n.0) sv (here-stays w v l here (h.0, h.1, refl)) (there-map (IsText w.lists) (IsText v.lists) (text-stays w v l) name h.2)))
+    node_of-kept v here name n (slice_get w.script.nodes n.0) sv (here-stays w v l here (h.0, h.1, refl)) (there-map (IsKnownName w.lists) (IsKnownName v.lists) (name-stays w v l) name h.2)))
 
 pub statements-kept : (w : World) (body : Running) (cells : List CellNo) (list : Part) (i : ℕ) → IsSound w → IsKnownTask w.script w.lists (Statements body cells list i) →
     IsKept (FitsTask (Statements body cells list i)) (statements_program w.script body cells list i) w

@@ -1,7 +1,6 @@
 -- The tasks of a running body keep within their weights, where a charge gives as much as a charge of their script.
 use Rattle.std.proofs.Common.{ℕ, ◌+◌, ◌*◌, ◌≤◌, Option, Some, None, List, arith}
 use Rattle.std.specs.Prelude.{slice_get}
-use Rattle.property_keys.specs.declared.identifiers.TextId.{TextId}
 use Rattle.property_keys.specs.declared.values.Value.TheVariants as value
 use Rattle.es_tree.specs.declared.expressions.Access.{Access}
 use Rattle.es_tree.specs.declared.expressions.Access.TheVariants as access
@@ -12,6 +11,7 @@ use Rattle.es_tree.specs.declared.node.Node.TheVariants as node
 use Rattle.es_tree.specs.declared.numbers.NodeId.{NodeId}
 use Rattle.es_tree.specs.Definitions.{most_definitions}
 use Rattle.es_tree.specs.Tree.{Tree}
+use Rattle.es_model.specs.declared.running.FunctionName.{FunctionName}
 use Rattle.es_model.specs.declared.kinds.CellNo.{CellNo}
 use Rattle.es_model.specs.declared.running.Part.{Part}
 use Rattle.es_model.specs.declared.running.Running.{Running}
@@ -50,7 +50,7 @@ access-within r here n (access.Index base key read write) enough =
 access-within r here n (access.Call callee arguments) enough = call-within r r here n callee (omega arith) (omega arith)
 access-within r here n (access.New callee arguments) enough = new-within r r here n callee (omega arith) (omega arith)
 
-node_of-within : (r : ℕ) (here : Context) (name : Option TextId) (n : NodeId) (found : Option Node) → 200 + 40 * most_definitions here.script.nodes ≤ r → Within r r (node_of here name n found)
+node_of-within : (r : ℕ) (here : Context) (name : Option FunctionName) (n : NodeId) (found : Option Node) → 200 + 40 * most_definitions here.script.nodes ≤ r → Within r r (node_of here name n found)
 node_of-within r here name n None enough = done-within _ _ _
 node_of-within r here name n (Some (node.Statement s)) enough = statement-within r r here n s (omega arith) (omega arith)
 node_of-within r here name n (Some (node.Operator o)) enough = operator-within r here n o (omega arith)
@@ -59,7 +59,7 @@ node_of-within r here name n (Some (node.Primary p)) enough = primary-within r h
 
 -- ---- the tasks
 
-pub node-within : (r : ℕ) (script : Tree) (body : Running) (cells : List CellNo) (name : Option TextId) (n : NodeId) → 200 + 40 * most_definitions script.nodes ≤ r → IsWithin r 0 (node_program script body cells name n)
+pub node-within : (r : ℕ) (script : Tree) (body : Running) (cells : List CellNo) (name : Option FunctionName) (n : NodeId) → 200 + 40 * most_definitions script.nodes ≤ r → IsWithin r 0 (node_program script body cells name n)
 node-within r script body cells name n enough = within-whole r 0 (node_program script body cells name n) (charged-within r 0 _ (node_of-within r (context script body cells) name n (slice_get script.nodes n.0) enough))
 
 pub statements-within : (r : ℕ) (script : Tree) (body : Running) (cells : List CellNo) (list : Part) (i : ℕ) → 200 ≤ r → IsWithin r 1 (statements_program script body cells list i)

@@ -27,6 +27,8 @@ use Rattle.es_model.specs.declared.kinds.ErrorKind.{ErrorKind}
 use Rattle.es_model.specs.declared.kinds.ErrorKind.TheVariants as error
 use Rattle.es_model.specs.declared.kinds.ObjectKind.TheVariants as kind_of
 use Rattle.es_model.specs.declared.requests.Request.{Request}
+use Rattle.es_model.specs.declared.running.FunctionName.{FunctionName}
+use Rattle.es_model.specs.declared.running.FunctionName.TheVariants as given_name
 use Rattle.es_model.specs.declared.running.Running.{Running}
 use Rattle.es_model.specs.declared.start_texts.StartText.TheVariants as start_text
 use Rattle.es_model.specs.StartTexts.{units_of_start}
@@ -39,7 +41,7 @@ use Rattle.es_model.specs.Program.{Program, Task, done, look, change, ask, charg
 use Rattle.es_model.specs.Known.{IsObject, IsText, IsCell, IfThere, IsKnown, IsKnownKey, IsSymbolKey, AreKnown}
 use Rattle.es_model.specs.Fits.{Fits, IsKnownCompletion, IsKnownRequest}
 use Rattle.es_model.specs.Sound.{IsShort, IsSound}
-use Rattle.es_model.specs.Kept.{AreCells, FitsTask, IsKept, IsKnownRunning, IsKnownTask, IsLater}
+use Rattle.es_model.specs.Kept.{AreCells, FitsTask, IsKept, IsKnownName, IsKnownRunning, IsKnownTask, IsLater}
 use Rattle.es_model.specs.programs.Abrupt.{flag_in, key_in, value_in, then_flag, then_key, then_value}
 use Rattle.es_model.specs.programs.Errors.{error_proto, hidden, make_error, throw_error}
 use Rattle.es_model.proofs.Abrupt.{key-there, part-kept, value-there}
@@ -49,6 +51,8 @@ use Rattle.es_model.proofs.Keeping.{later_then}
 use Rattle.es_model.proofs.KnownLater.{all-map, there-map, cell-later, key-later, known-later, object-later, text-later}
 use Rattle.es_model.proofs.Rests.{charged-script}
 use Rattle.es_model.proofs.SharedKept.{later-changed, name-known}
+use Rattle.es_model.proofs.ArrayLengths.{IsNoArray, no_array-leaves, start-no_array}
+use Rattle.es_model.proofs.SoundArrays.{made-no_array}
 use Rattle.es_model.proofs.SoundChanges.{sound-defining, sound-interning, sound-making}
 use Rattle.es_model.proofs.SoundErrors.{error-kept, interned-known, noted-objects}
 use Rattle.es_model.proofs.SoundReads.{sound-charged}
@@ -115,6 +119,10 @@ key-stays w v l k h = key-later w.lists v.lists l.lists k h
 pub text-stays : (w v : World) → IsLater w v → (t : TextId) → IsText w.lists t → IsText v.lists t
 text-stays w v l t h = text-later w.lists v.lists l.lists t h
 
+pub name-stays : (w v : World) → IsLater w v → (n : FunctionName) → IsKnownName w.lists n → IsKnownName v.lists n
+name-stays w v l (given_name.Text t) h = text-stays w v l t h
+name-stays w v l (given_name.Key before k) h = key-stays w v l k h
+
 pub object-stays : (w v : World) → IsLater w v → (o : ObjectId) → IsObject w.lists o → IsObject v.lists o
 object-stays w v l o h = object-later w.lists v.lists l.lists o h
 
@@ -155,6 +163,9 @@ onward-stays w v l p f = λ u s later. f u s (later_then w v u l later)
 pub global-there : (w : World) → IsSound w → IsObject w.lists global
 global-there w s = (s.intact.start intrinsic.Global).0
 
+pub global-other : (w : World) → IsSound w → IsNoArray w.lists global
+global-other w s = start-no_array w.lists s.intact intrinsic.Global refl
+
 pub object_or-known : (w : World) (o : Option ObjectId) → IfThere (IsObject w.lists) o → IsKnown w.lists (object_or_undefined o)
 object_or-known w None h = tt
 object_or-known w (Some o) h = h
@@ -186,7 +197,7 @@ pub asked-kept : (w : World) (q : Request) (next : Completion → Program) → I
 unfolding Keeps
 asked-kept w q next s known f = (s, known, λ c v sv l fit. f c v sv l (fits-known v.lists q c fit))
 
-pub evaluated-kept : (w : World) (here : Context) (name : Option TextId) (n : NodeId) (next : Completion → Program) → IsSound w → IsHere w here → IfThere (IsText w.lists) name → OnEnd w next → Keeps (evaluate_named here name n next) w
+pub evaluated-kept : (w : World) (here : Context) (name : Option FunctionName) (n : NodeId) (next : Completion → Program) → IsSound w → IsHere w here → IfThere (IsKnownName w.lists) name → OnEnd w next → Keeps (evaluate_named here name n next) w
 unfolding Keeps
 evaluated-kept w here name n next s h known f = (s, (h.0, h.1, known), λ c v sv l k. f c v sv l k)
 
@@ -222,12 +233,6 @@ pub error-known : (w : World) (k : ErrorKind) (text : List ℕ) → IsSound w �
 unfolding Keeps
 error-known w k text s short = error-kept (Round no_body [] (record { 0 = 0 })) w k text s short
 
-error-there : (w : World) (k : ErrorKind) → IsObject (changed (Making kind_of.Error OfError (error_proto k)) w).lists (new_object w.lists)
-unfolding changed made
-error-there w k =
-    let n = length-append w.lists.objects (new_object_of kind_of.Error (error_proto k) ∷ []) in
-    let same = noted-objects (with_objects w (w.lists.objects ++ new_object_of kind_of.Error (error_proto k) ∷ [])) (error_proto k) in omega arith
-
 message-short : IsShort (units_of_start start_text.Message)
 message-short = omega arith
 
@@ -243,13 +248,14 @@ thrown-kept w k t s known =
     let c : World = changed (Making kind_of.Error OfError (error_proto k)) b in
     let e : ObjectId = new_object b.lists in
     let sb : IsSound b = sound-interning w (units_of_start start_text.Message) s message-short in
-    let sc : IsSound c = sound-making b kind_of.Error OfError (error_proto k) sb tt tt (sb.intact.start (intrinsic.Prototype (class.Error k))).0 in
+    let sc : IsSound c = sound-making b kind_of.Error OfError (error_proto k) sb tt tt (sb.intact.start (intrinsic.Prototype (class.Error k))).0 refl in
     let g = grows-changed (Making kind_of.Error OfError (error_proto k)) b in
     let t-known : IsText c.lists t = text-later b.lists c.lists g t (text-later w.lists b.lists (grows-changed (Interning (units_of_start start_text.Message)) w) t known) in
-    let there : IsObject c.lists e = error-there b k in
+    let plain : IsNoArray c.lists e = made-no_array b kind_of.Error OfError (error_proto k) refl in
     let d : Descriptor = hidden (value.Text t) in (
-      sound-defining c e (Name name) d sc there (key-later b.lists c.lists g (Name name) (name-known w (units_of_start start_text.Message) message-plain)) (record { value = t-known; get = tt; set = tt; sound = refl }),
-      object-later c.lists (changed (Defining e (Name name) d) c).lists (grows-changed (Defining e (Name name) d) c) e there,
+      sound-defining c e (Name name) d sc plain.there (key-later b.lists c.lists g (Name name) (name-known w (units_of_start start_text.Message) message-plain)) (record { value = t-known; get = tt; set = tt; sound = refl })
+          (no_array-leaves c.lists e (Name name) d.value plain.other),
+      object-later c.lists (changed (Defining e (Name name) d) c).lists (grows-changed (Defining e (Name name) d) c) e plain.there,
     )
 
 -- ---- texts and keys

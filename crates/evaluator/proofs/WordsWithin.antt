@@ -15,15 +15,19 @@ use Rattle.es_model.specs.Changes.{Change}
 use Rattle.es_model.specs.Program.{Program, Evaluating, Round, Statements, Task, ask, change, charge, done, intern, look, part}
 use Rattle.es_model.specs.Weights.{request_weight, weight, IsWithin}
 use Rattle.es_model.specs.programs.Abrupt.{flag_in, key_in, value_in, taken, then_flag, then_key, then_value}
+use Rattle.es_model.specs.programs.Converting.{to_number}
 use Rattle.es_model.specs.programs.Errors.{make_error, throw_error}
+use Rattle.es_model.specs.programs.Texts.{to_string}
 use Rattle.es_model.proofs.SharedWithin.{error-within}
 use Rattle.es_model.proofs.Within.{go_on-within, within-cond, within-more}
 use Rattle.es_model.specs.declared.kinds.CellNo.{CellNo}
+use Rattle.es_model.specs.declared.running.FunctionName.{FunctionName}
 use Rattle.es_model.specs.declared.running.Part.{Part}
 use Rattle.es_model.specs.declared.running.Running.{Running}
 use Rattle.property_keys.specs.declared.values.Value.TheVariants as value
-use Rattle.evaluator.specs.Contexts.{Context, evaluate_last, evaluate_named}
+use Rattle.evaluator.specs.Contexts.{Context, evaluate_last, evaluate_named, normal}
 use Rattle.evaluator.specs.Errors.{join, make_text, text_too_long, throw_named}
+use Rattle.evaluator.specs.Operators.{to_primitive}
 use Rattle.evaluator.specs.Statements.{round, statements}
 use Rattle.evaluator.specs.Values.{key_of_text, or_out, with_key}
 
@@ -66,7 +70,7 @@ unfolding Within
 asked-within r b left q next less h = (left, less, h)
 
 -- a node takes a turn, so whatever is left before
-pub evaluated-within : (r b : ℕ) (here : Context) (name : Option TextId) (n : NodeId) (next : Completion → Program) → 1 ≤ b → On r r next → Within r b (evaluate_named here name n next)
+pub evaluated-within : (r b : ℕ) (here : Context) (name : Option FunctionName) (n : NodeId) (next : Completion → Program) → 1 ≤ b → On r r next → Within r b (evaluate_named here name n next)
 unfolding Within
 evaluated-within r b here name n next some h = (0, some, h)
 
@@ -142,3 +146,32 @@ with_key-within r b units next h = text-within r b units _ (λ t. look-within _ 
 pub or_out-within : (r b : ℕ) (n : Option ℤ) (next : ℤ → Program) → ((m : ℤ) → Within r b (next m)) → Within r b (or_out n next)
 or_out-within r b None next h = error_thrown _ _ error.RangeError _
 or_out-within r b (Some n) next h = h n
+
+-- ---- conversions, which ask where there is something to convert
+
+pub number-within : (r b left : ℕ) (v : Value) (next : Completion → Program) → left + 13 ≤ b → On r left next → Within r b (to_number v next)
+number-within r b left (value.Whole n) next some h = more-within r left b _ (omega arith) (h (normal (value.Whole n)))
+number-within r b left value.Undefined next some h = asked-within _ _ left _ _ (omega arith) h
+number-within r b left value.Null next some h = asked-within _ _ left _ _ (omega arith) h
+number-within r b left (value.Bool x) next some h = asked-within _ _ left _ _ (omega arith) h
+number-within r b left (value.Text t) next some h = asked-within _ _ left _ _ (omega arith) h
+number-within r b left (value.Symbol y) next some h = asked-within _ _ left _ _ (omega arith) h
+number-within r b left (value.Object o) next some h = asked-within _ _ left _ _ (omega arith) h
+
+pub string-within : (r b left : ℕ) (v : Value) (next : Completion → Program) → left + 13 ≤ b → On r left next → Within r b (to_string v next)
+string-within r b left (value.Text t) next some h = more-within r left b _ (omega arith) (h (normal (value.Text t)))
+string-within r b left value.Undefined next some h = asked-within _ _ left _ _ (omega arith) h
+string-within r b left value.Null next some h = asked-within _ _ left _ _ (omega arith) h
+string-within r b left (value.Bool x) next some h = asked-within _ _ left _ _ (omega arith) h
+string-within r b left (value.Whole n) next some h = asked-within _ _ left _ _ (omega arith) h
+string-within r b left (value.Symbol y) next some h = asked-within _ _ left _ _ (omega arith) h
+string-within r b left (value.Object o) next some h = asked-within _ _ left _ _ (omega arith) h
+
+pub primitive-within : (r b left : ℕ) (v : Value) (next : Completion → Program) → left + 11 ≤ b → On r left next → Within r b (to_primitive v next)
+primitive-within r b left (value.Object o) next some h = asked-within _ _ left _ _ (omega arith) h
+primitive-within r b left value.Undefined next some h = more-within r left b _ (omega arith) (h (normal value.Undefined))
+primitive-within r b left value.Null next some h = more-within r left b _ (omega arith) (h (normal value.Null))
+primitive-within r b left (value.Bool x) next some h = more-within r left b _ (omega arith) (h (normal (value.Bool x)))
+primitive-within r b left (value.Whole n) next some h = more-within r left b _ (omega arith) (h (normal (value.Whole n)))
+primitive-within r b left (value.Text t) next some h = more-within r left b _ (omega arith) (h (normal (value.Text t)))
+primitive-within r b left (value.Symbol y) next some h = more-within r left b _ (omega arith) (h (normal (value.Symbol y)))

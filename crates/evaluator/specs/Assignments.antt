@@ -6,17 +6,17 @@ use Rattle.es_tree.specs.declared.expressions.AssignOperator.{AssignOperator}
 use Rattle.es_tree.specs.declared.expressions.AssignOperator.TheVariants as assign_operator
 use Rattle.es_tree.specs.declared.names.Target.{Target}
 use Rattle.es_tree.specs.declared.numbers.NodeId.{NodeId}
-use Rattle.es_model.specs.declared.requests.Operation.TheVariants as operation
 use Rattle.es_model.specs.Completions.{Completion}
 use Rattle.es_model.specs.Program.{Program}
 use Rattle.es_model.specs.programs.Abrupt.{then_value}
+use Rattle.es_model.specs.programs.Converting.{to_number}
 use Rattle.es_model.specs.programs.Errors.{unfit}
 use Rattle.evaluator.specs.declared.references.Arithmetic.{Arithmetic}
 use Rattle.evaluator.specs.declared.references.Arithmetic.TheVariants as arithmetic
 use Rattle.evaluator.specs.declared.references.Finish.TheVariants as finish
 use Rattle.evaluator.specs.declared.references.Reference.{Reference}
 use Rattle.evaluator.specs.Accesses.{target_reference}
-use Rattle.evaluator.specs.Contexts.{Context, convert, evaluate, evaluate_named}
+use Rattle.evaluator.specs.Contexts.{Context, evaluate, evaluate_named}
 use Rattle.evaluator.specs.Operators.{apply}
 use Rattle.evaluator.specs.References.{get_value, name_of, put_value}
 use Rattle.evaluator.specs.Values.{or_out, whole_of}
@@ -61,7 +61,7 @@ abbrev pub update_converted : Context → (increment prefix : Bool) → Referenc
 update_converted here increment prefix r c = then_value (λ v. update_number here increment prefix r v) c
 
 abbrev pub update_read : Context → (increment prefix : Bool) → Reference → Completion → Program
-update_read here increment prefix r c = then_value (λ v. convert operation.ToWhole v (update_converted here increment prefix r)) c
+update_read here increment prefix r c = then_value (λ v. to_number v (update_converted here increment prefix r)) c
 
 abbrev pub update_reference : Context → (increment prefix : Bool) → Reference → Program
 update_reference here increment prefix r = get_value here r (update_read here increment prefix r)

@@ -1,6 +1,5 @@
 -- The execution context of a running body (ECMA-262, 9.4), and how an algorithm goes on to the parts of a node.
 use Rattle.std.specs.Prelude.{Bool, Option, None, List, [], ◌∷◌, slice_get}
-use Rattle.property_keys.specs.declared.identifiers.TextId.{TextId}
 use Rattle.property_keys.specs.declared.values.Value.{Value}
 use Rattle.es_tree.specs.declared.node.Node.{Node}
 use Rattle.es_tree.specs.declared.numbers.NodeId.{NodeId}
@@ -9,6 +8,7 @@ use Rattle.es_model.specs.declared.answers.Reply.TheVariants as reply
 use Rattle.es_model.specs.declared.kinds.CellNo.{CellNo}
 use Rattle.es_model.specs.declared.requests.Operation.{Operation}
 use Rattle.es_model.specs.declared.requests.Request.TheVariants.{Work}
+use Rattle.es_model.specs.declared.running.FunctionName.{FunctionName}
 use Rattle.es_model.specs.declared.running.Running.{Running}
 use Rattle.es_model.specs.Completions.{Completion, Normal}
 use Rattle.es_model.specs.Program.{Program, done, ask, part, Evaluating}
@@ -62,7 +62,7 @@ abbrev pub evaluate : Context → NodeId → (Completion → Program) → Progra
 evaluate here n k = part (Evaluating here.body here.cells None n) k
 
 -- NamedEvaluation (8.4.5): an anonymous function that is this node gets the name. No other node looks at it
-abbrev pub evaluate_named : Context → Option TextId → NodeId → (Completion → Program) → Program
+abbrev pub evaluate_named : Context → Option FunctionName → NodeId → (Completion → Program) → Program
 evaluate_named here name n k = part (Evaluating here.body here.cells name n) k
 
 -- a node whose completion is that of the whole

@@ -1,9 +1,12 @@
 -- Functions of the script (ECMA-262, 10.2, 15.2): how one is made where it stands, and what its body does once it is entered.
-use Rattle.std.specs.Prelude.{ℕ, zero, suc, ◌-◌, true, false, if◌then◌else◌, Option, Some, None, List, [], ◌∷◌, ◌++◌, slice_get}
+use Rattle.std.specs.Prelude.{ℕ, zero, suc, ◌-◌, true, false, if◌then◌else◌, Option, Some, None, List, [], ◌∷◌, ◌++◌, codes, slice_get}
 use Rattle.property_keys.specs.declared.identifiers.ObjectId.{ObjectId}
 use Rattle.property_keys.specs.declared.identifiers.TextId.{TextId}
+use Rattle.property_keys.specs.declared.keys.PropKey.{PropKey}
+use Rattle.property_keys.specs.declared.keys.PropKey.TheVariants.{Sym}
 use Rattle.property_keys.specs.declared.values.Value.{Value}
 use Rattle.property_keys.specs.declared.values.Value.TheVariants as value
+use Rattle.property_keys.specs.Keys.{text_of_key}
 use Rattle.descriptors.specs.declared.fields.Descriptor.{Descriptor}
 use Rattle.es_tree.specs.declared.body.Body.{Body}
 use Rattle.es_tree.specs.declared.body.DeclaredFunction.{DeclaredFunction}
@@ -12,14 +15,19 @@ use Rattle.es_tree.specs.declared.numbers.FunctionNo.{FunctionNo}
 use Rattle.es_tree.specs.Tree.{Tree, top_names}
 use Rattle.es_model.specs.declared.intrinsics.Class.TheVariants as class
 use Rattle.es_model.specs.declared.kinds.CellNo.{CellNo}
+use Rattle.es_model.specs.declared.running.FunctionName.{FunctionName}
+use Rattle.es_model.specs.declared.running.FunctionName.TheVariants.{Text, Key}
+use Rattle.es_model.specs.declared.running.NamePrefix.{NamePrefix}
+use Rattle.es_model.specs.declared.running.NamePrefix.TheVariants as name_prefix
 use Rattle.es_model.specs.declared.running.Part.{Part}
 use Rattle.es_model.specs.declared.running.Part.TheVariants as part_of
 use Rattle.es_model.specs.declared.running.Running.{Running}
 use Rattle.es_model.specs.Completions.{Completion, Return, Throw}
+use Rattle.es_model.specs.World.{Lists, description, units_of}
 use Rattle.es_model.specs.Program.{Program, done, look, charge, part, define, make_cell, Statements}
 use Rattle.es_model.specs.programs.Errors.{undefined, unwritten}
 use Rattle.function_objects.specs.Constructing.{get_prototype, make_constructed, note_construction, prototype_given}
-use Rattle.function_objects.specs.Making.{function_made}
+use Rattle.function_objects.specs.Making.{create_function, function_made, name_function}
 use Rattle.function_objects.specs.Receivers.{bind_this}
 use Rattle.evaluator.specs.Contexts.{Context, context, falls, gives, normal, with_cells}
 use Rattle.evaluator.specs.Errors.{make_text}
@@ -27,24 +35,48 @@ use Rattle.evaluator.specs.References.{global}
 use Rattle.evaluator.specs.Scopes.{enter_scope, initialise}
 use Rattle.evaluator.specs.Values.{key_of_text}
 
+-- ---- names of functions (10.2.9 SetFunctionName, steps 1 to 5): the text of a key, or a Symbol's description in brackets, behind a prefix
+
+abbrev pub bracketed : Option (List ℕ) → List ℕ
+bracketed None = []
+bracketed (Some units) = codes "[" ++ units ++ codes "]"
+
+abbrev pub description_units : Lists → Option TextId → Option (List ℕ)
+description_units l None = None
+description_units l (Some t) = Some (units_of l t)
+
+abbrev pub name_units : Lists → PropKey → List ℕ
+name_units l (Sym s) = bracketed (description_units l (description l s))
+name_units l other = text_of_key l.texts other
+
+abbrev pub prefix_units : NamePrefix → List ℕ
+prefix_units name_prefix.Nothing = []
+prefix_units name_prefix.Get = codes "get "
+prefix_units name_prefix.Set = codes "set "
+
+abbrev pub with_name : NamePrefix → PropKey → (TextId → Program) → Program
+with_name before k next = look (λ l. make_text (prefix_units before ++ name_units l k) next)
+
 -- ---- function expressions, methods and accessors (15.2.5, 15.4.4)
 
--- the name that is written at a function; else the one that it gets where it stands; else the empty text
-abbrev pub function_name : Option (List ℕ) → Option TextId → (TextId → Program) → Program
+-- the name that is written at a function; else what it gets where it stands; else the empty text
+abbrev pub function_name : Option (List ℕ) → Option FunctionName → (TextId → Program) → Program
 function_name (Some units) given next = make_text units next
-function_name None (Some name) next = next name
+function_name None (Some (Text name)) next = next name
+function_name None (Some (Key before k)) next = with_name before k next
 function_name None None next = make_text [] next
 
 abbrev pub written_name : Option Body → Option (List ℕ)
 written_name None = None
 written_name (Some code) = code.name
 
-abbrev pub make_found : Context → Option TextId → FunctionNo → Option FunctionFacts → Program
+abbrev pub make_found : Context → Option FunctionName → FunctionNo → Option FunctionFacts → Program
 make_found here name f None = falls
-make_found here name f (Some facts) =
-    function_name (written_name (slice_get here.script.bodies f.0)) name (λ n. function_made f facts n (λ o. gives (value.Object o)))
+make_found here name f (Some facts) = create_function f facts (λ o.
+    function_name (written_name (slice_get here.script.bodies f.0)) name (λ n. name_function o facts n (gives (value.Object o))))
 
-abbrev pub make_function : Context → Option TextId → FunctionNo → Program
+-- the name is made once the function is there
+abbrev pub make_function : Context → Option FunctionName → FunctionNo → Program
 make_function here name f = make_found here name f (slice_get here.script.functions f.0)
 
 -- ---- how a body ends

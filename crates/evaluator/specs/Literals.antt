@@ -1,15 +1,11 @@
 -- Primary expressions (ECMA-262, 13.2): names, literals, object literals.
-use Rattle.std.specs.Prelude.{ℕ, ◌++◌, Bool, true, false, if◌then◌else◌, suc, Option, Some, None, List, [], ◌∷◌, codes, slice_get}
+use Rattle.std.specs.Prelude.{ℕ, Bool, true, if◌then◌else◌, suc, Option, Some, None, List, [], ◌∷◌, slice_get}
 use Rattle.property_keys.specs.declared.identifiers.ObjectId.{ObjectId}
-use Rattle.property_keys.specs.declared.identifiers.TextId.{TextId}
 use Rattle.property_keys.specs.declared.keys.PropKey.{PropKey}
-use Rattle.property_keys.specs.declared.keys.PropKey.TheVariants.{Sym}
 use Rattle.property_keys.specs.declared.values.Value.{Value}
 use Rattle.property_keys.specs.declared.values.Value.TheVariants as value
-use Rattle.property_keys.specs.Keys.{text_of_key}
 use Rattle.descriptors.specs.declared.fields.Descriptor.{Descriptor}
 use Rattle.es_source.specs.Places.{same_place}
-use Rattle.es_tree.specs.declared.body.Body.{Body}
 use Rattle.es_tree.specs.declared.facts.LiteralFacts.{LiteralFacts}
 use Rattle.es_tree.specs.declared.names.Named.{Named}
 use Rattle.es_tree.specs.declared.node.Node.{Node}
@@ -27,10 +23,13 @@ use Rattle.es_model.specs.declared.intrinsics.Class.TheVariants as class
 use Rattle.es_model.specs.declared.kinds.ObjectKind.TheVariants as kind_of
 use Rattle.es_model.specs.declared.requests.Operation.TheVariants as operation
 use Rattle.es_model.specs.declared.requests.Request.TheVariants.{SetProto}
+use Rattle.es_model.specs.declared.running.FunctionName.{FunctionName}
+use Rattle.es_model.specs.declared.running.FunctionName.TheVariants as given_name
+use Rattle.es_model.specs.declared.running.NamePrefix.{NamePrefix}
+use Rattle.es_model.specs.declared.running.NamePrefix.TheVariants as name_prefix
 use Rattle.es_model.specs.Completions.{Completion}
 use Rattle.es_model.specs.Events.{Origin, OfLiteral}
-use Rattle.es_model.specs.World.{Lists, description, units_of}
-use Rattle.es_model.specs.Program.{Program, look, ask, define, make}
+use Rattle.es_model.specs.Program.{Program, ask, define, make}
 use Rattle.es_model.specs.programs.Abrupt.{then_flag, then_key, then_value}
 use Rattle.es_model.specs.programs.Errors.{unwritten}
 use Rattle.evaluator.specs.Accesses.{read_reference}
@@ -39,32 +38,6 @@ use Rattle.evaluator.specs.Errors.{make_text}
 use Rattle.evaluator.specs.Functions.{make_function}
 use Rattle.evaluator.specs.References.{get_value, prototype_of, resolve}
 use Rattle.evaluator.specs.Values.{or_out, whole_of, with_key}
-
--- ---- names of functions (10.2.9 SetFunctionName, steps 1 to 5): the text of a key, or a Symbol's description in brackets, behind a prefix
-
-abbrev pub bracketed : Option (List ℕ) → List ℕ
-bracketed None = []
-bracketed (Some units) = codes "[" ++ units ++ codes "]"
-
-abbrev pub description_units : Lists → Option TextId → Option (List ℕ)
-description_units l None = None
-description_units l (Some t) = Some (units_of l t)
-
-abbrev pub name_units : Lists → PropKey → List ℕ
-name_units l (Sym s) = bracketed (description_units l (description l s))
-name_units l other = text_of_key l.texts other
-
-abbrev pub with_name : List ℕ → PropKey → (TextId → Program) → Program
-with_name prefix k next = look (λ l. make_text (prefix ++ name_units l k) next)
-
--- IsAnonymousFunctionDefinition (8.4.4)
-abbrev pub has_no_name : Option Body → Bool
-has_no_name (Some body) = elim body.name as (λ n. Bool) [ None ↦ true | Some units ↦ false ]
-has_no_name None = false
-
-abbrev pub is_anonymous : Tree → Option Node → Bool
-is_anonymous script (Some (node.Primary (primary.Function f))) = has_no_name (slice_get script.bodies f.0)
-is_anonymous script other = false
 
 -- ---- object literals (13.2.5.4)
 
@@ -98,16 +71,9 @@ abbrev pub property_key : Context → Key → (PropKey → Program) → Program
 property_key here (key.Fixed units) next = with_key units next
 property_key here (key.Computed n) next = evaluate here n (key_valued next)
 
--- the value of a property definition. An anonymous function gets the key as its name
-abbrev pub value_keyed : Context → ObjectId → NodeId → Program → PropKey → Program
-value_keyed here o v next k =
-    if is_anonymous here.script (node_at here v)
-    then with_name [] k (λ name. evaluate_named here (Some name) v (property_valued o k plain next))
-    else evaluate here v (property_valued o k plain next)
-
--- a method or an accessor (15.4.5) gets the key as its name, behind `get ` and `set `
-abbrev pub method_keyed : Context → ObjectId → List ℕ → (Value → Descriptor) → NodeId → Program → PropKey → Program
-method_keyed here o prefix made m next k = with_name prefix k (λ name. evaluate_named here (Some name) m (property_valued o k made next))
+-- The value of a property definition, a method or an accessor (15.4.5): an anonymous function gets the key as its name, behind `get ` or `set ` in an accessor
+abbrev pub value_keyed : Context → ObjectId → NamePrefix → (Value → Descriptor) → NodeId → Program → PropKey → Program
+value_keyed here o before made v next k = evaluate_named here (Some (given_name.Key before k)) v (property_valued o k made next)
 
 -- `__proto__: v` (13.2.5.5, step 7)
 abbrev pub proto_answered : Program → Completion → Program
@@ -126,12 +92,12 @@ shorthand_keyed here o named next k = resolve here named (λ r. get_value here r
 
 -- PropertyDefinitionEvaluation (13.2.5.5), and what comes then
 abbrev pub property_then : Context → ObjectId → Property → Program → Program
-property_then here o (property.Value name v) next = property_key here name (value_keyed here o v next)
+property_then here o (property.Value name v) next = property_key here name (value_keyed here o name_prefix.Nothing plain v next)
 property_then here o (property.Shorthand named) next = with_key named.name (shorthand_keyed here o named next)
 property_then here o (property.Prototype v) next = evaluate here v (proto_valued o next)
-property_then here o (property.Method name m) next = property_key here name (method_keyed here o [] plain m next)
-property_then here o (property.Getter name m) next = property_key here name (method_keyed here o (codes "get ") getter m next)
-property_then here o (property.Setter name m) next = property_key here name (method_keyed here o (codes "set ") setter m next)
+property_then here o (property.Method name m) next = property_key here name (value_keyed here o name_prefix.Nothing plain m next)
+property_then here o (property.Getter name m) next = property_key here name (value_keyed here o name_prefix.Get getter m next)
+property_then here o (property.Setter name m) next = property_key here name (value_keyed here o name_prefix.Set setter m next)
 
 abbrev pub properties_from : Context → ObjectId → List Property → Program
 properties_from here o [] = gives (value.Object o)
@@ -170,7 +136,7 @@ array_literal here n = unwritten
 
 -- ---- each primary expression
 
-abbrev pub primary_program : Context → Option TextId → NodeId → Primary → Program
+abbrev pub primary_program : Context → Option FunctionName → NodeId → Primary → Program
 -- ResolveThisBinding (9.4.4)
 primary_program here name n primary.This = gives here.body.this
 primary_program here name n (primary.Name named) = resolve here named (read_reference here)

@@ -1,5 +1,5 @@
 -- Operators (ECMA-262, 13.5 to 13.14 and 13.16).
-use Rattle.std.specs.Prelude.{Bool, true, false, not, ◌||◌, if◌then◌else◌, neg_ℤ, Option, Some, List, [], ◌∷◌}
+use Rattle.std.specs.Prelude.{Bool, true, false, not, ◌||◌, if◌then◌else◌, int_lt, neg_ℤ, Option, Some, List, [], ◌∷◌}
 use Rattle.property_keys.specs.declared.identifiers.ObjectId.{ObjectId}
 use Rattle.property_keys.specs.declared.values.Value.{Value}
 use Rattle.property_keys.specs.declared.values.Value.TheVariants as value
@@ -16,13 +16,16 @@ use Rattle.es_tree.specs.declared.node.Node.{Node}
 use Rattle.es_tree.specs.declared.node.Node.TheVariants as node
 use Rattle.es_tree.specs.declared.numbers.NodeId.{NodeId}
 use Rattle.es_tree.specs.declared.primaries.Primary.TheVariants as primary
+use Rattle.es_model.specs.declared.answers.Reply.TheVariants as reply
 use Rattle.es_model.specs.declared.requests.Operation.TheVariants as operation
 use Rattle.es_model.specs.declared.requests.Request.TheVariants.{Has, Work}
-use Rattle.es_model.specs.Completions.{Completion}
+use Rattle.es_model.specs.Completions.{Completion, Normal}
 use Rattle.es_model.specs.World.{Lists}
 use Rattle.es_model.specs.Program.{Program, look, charge, ask, intern}
 use Rattle.es_model.specs.programs.Abrupt.{then_flag, then_key, then_value}
+use Rattle.es_model.specs.programs.Converting.{to_number}
 use Rattle.es_model.specs.programs.Errors.{unfit}
+use Rattle.es_model.specs.programs.Texts.{to_string}
 use Rattle.evaluator.specs.declared.references.Arithmetic.{Arithmetic}
 use Rattle.evaluator.specs.declared.references.Arithmetic.TheVariants as arithmetic
 use Rattle.evaluator.specs.declared.references.Finish.{Finish}
@@ -30,11 +33,16 @@ use Rattle.evaluator.specs.declared.references.Finish.TheVariants as finish
 use Rattle.evaluator.specs.declared.references.Reference.{Reference}
 use Rattle.evaluator.specs.declared.references.Reference.TheVariants as reference
 use Rattle.evaluator.specs.Accesses.{access_reference}
-use Rattle.evaluator.specs.Contexts.{Context, convert, evaluate, evaluate_last, given, gives, node_at}
+use Rattle.evaluator.specs.Contexts.{Context, convert, evaluate, evaluate_last, given, gives, node_at, normal}
 use Rattle.evaluator.specs.Errors.{join, not_an_object}
 use Rattle.evaluator.specs.References.{delete_reference, get_value, put_value, resolve}
 use Rattle.es_model.specs.programs.Testing.{is_truth}
 use Rattle.evaluator.specs.Values.{calculate, is_nullish, is_text, or_out, type_name, whole_of}
+
+-- ToPrimitive (7.1.1): what is no Object is a primitive value
+abbrev pub to_primitive : Value → (Completion → Program) → Program
+to_primitive (value.Object o) next = convert operation.ToPrimitiveDefault (value.Object o) next
+to_primitive other next = next (normal other)
 
 -- ---- unary operators (13.5)
 
@@ -70,7 +78,7 @@ typeof_at here n other = evaluate here n typeof_valued
 
 -- unary `+` (13.5.4)
 abbrev pub plus_valued : Completion → Program
-plus_valued c = then_value (λ v. convert operation.ToWhole v given) c
+plus_valued c = then_value (λ v. to_number v given) c
 
 -- unary `-` (13.5.5)
 abbrev pub negated : Value → Program
@@ -81,7 +89,7 @@ abbrev pub minus_converted : Completion → Program
 minus_converted c = then_value negated c
 
 abbrev pub minus_valued : Completion → Program
-minus_valued c = then_value (λ v. convert operation.ToWhole v minus_converted) c
+minus_valued c = then_value (λ v. to_number v minus_converted) c
 
 -- ! (13.5.7)
 abbrev pub not_value : Value → Program
@@ -113,10 +121,10 @@ abbrev pub right_number : Context → Arithmetic → Finish → Value → Comple
 right_number here op end a c = then_value (λ b. calculated here op end a b) c
 
 abbrev pub left_number : Context → Arithmetic → Finish → Value → Completion → Program
-left_number here op end b c = then_value (λ a. convert operation.ToWhole b (right_number here op end a)) c
+left_number here op end b c = then_value (λ a. to_number b (right_number here op end a)) c
 
 abbrev pub numbers : Context → Arithmetic → Finish → Value → Value → Program
-numbers here op end a b = convert operation.ToWhole a (left_number here op end b)
+numbers here op end a b = to_number a (left_number here op end b)
 
 -- step 1.c: both operands to texts
 abbrev pub joined : Context → Finish → Value → Value → Program
@@ -127,21 +135,21 @@ abbrev pub right_text : Context → Finish → Value → Completion → Program
 right_text here end a c = then_value (λ b. joined here end a b) c
 
 abbrev pub left_text : Context → Finish → Value → Completion → Program
-left_text here end b c = then_value (λ a. convert operation.ToText b (right_text here end a)) c
+left_text here end b c = then_value (λ a. to_string b (right_text here end a)) c
 
 abbrev pub add_primitives : Context → Finish → Value → Value → Program
 add_primitives here end a b =
-    if is_text a || is_text b then convert operation.ToText a (left_text here end b) else numbers here arithmetic.Add end a b
+    if is_text a || is_text b then to_string a (left_text here end b) else numbers here arithmetic.Add end a b
 
 -- steps 1.a and 1.b: both operands to primitive values
 abbrev pub right_primitive : Context → Finish → Value → Completion → Program
 right_primitive here end a c = then_value (λ b. add_primitives here end a b) c
 
 abbrev pub left_primitive : Context → Finish → Value → Completion → Program
-left_primitive here end b c = then_value (λ a. convert operation.ToPrimitiveDefault b (right_primitive here end a)) c
+left_primitive here end b c = then_value (λ a. to_primitive b (right_primitive here end a)) c
 
 abbrev pub apply : Context → Arithmetic → Finish → Value → Value → Program
-apply here arithmetic.Add end a b = convert operation.ToPrimitiveDefault a (left_primitive here end b)
+apply here arithmetic.Add end a b = to_primitive a (left_primitive here end b)
 apply here other end a b = numbers here other end a b
 
 -- ---- binary operators (13.7 to 13.11)
@@ -152,8 +160,9 @@ flag_given c = then_flag (λ b. gives (value.Bool b)) c
 abbrev pub flag_denied : Completion → Program
 flag_denied c = then_flag (λ b. gives (value.Bool (not b))) c
 
--- IsLessThan (7.2.13) of two operands, with LeftFirst
+-- IsLessThan (7.2.13) of two operands, with LeftFirst. Of two numbers it is step 4
 abbrev pub is_less : Value → Value → Bool → (Completion → Program) → Program
+is_less (value.Whole a) (value.Whole b) left_first next = next (Normal (reply.Flag (int_lt a b)))
 is_less a b left_first next = ask (Work operation.LessThan (a ∷ b ∷ value.Bool left_first ∷ [])) next
 
 -- in (13.10.1)

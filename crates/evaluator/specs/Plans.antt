@@ -1,5 +1,5 @@
 -- What the items and jobs of a running body mean, and what a function of the evaluator has to give.
-use Rattle.std.specs.Prelude.{◌≡◌, ℕ, Bool, true, not, List, [], ◌∷◌, ◌++◌, codes, drop, Result, Ok, Err, Option, Some, None, length, slice_get}
+use Rattle.std.specs.Prelude.{◌≡◌, ℕ, Bool, true, not, List, [], ◌∷◌, ◌++◌, drop, Result, Ok, Err, Option, Some, None, length, slice_get}
 use Rattle.property_keys.specs.declared.identifiers.ObjectId.{ObjectId}
 use Rattle.property_keys.specs.declared.identifiers.TextId.{TextId}
 use Rattle.property_keys.specs.declared.keys.PropKey.{PropKey}
@@ -15,6 +15,8 @@ use Rattle.es_model.specs.declared.answers.Stop.TheVariants.{Halted, NoMemory}
 use Rattle.es_model.specs.declared.kinds.CellNo.{CellNo}
 use Rattle.es_model.specs.declared.requests.Operation.TheVariants as operation
 use Rattle.es_model.specs.declared.requests.Request.TheVariants.{Has}
+use Rattle.es_model.specs.declared.running.NamePrefix.{NamePrefix}
+use Rattle.es_model.specs.declared.running.NamePrefix.TheVariants as name_prefix
 use Rattle.es_model.specs.declared.running.Running.{Running}
 use Rattle.es_model.specs.Completions.{Completion, Break, Continue, Return, Throw}
 use Rattle.es_model.specs.Changes.{Interning, changed}
@@ -22,6 +24,8 @@ use Rattle.es_model.specs.World.{World, units_of}
 use Rattle.es_model.specs.Program.{Program, define, done, ask, Task, Evaluating, Statements, Round}
 use Rattle.es_model.specs.Stages.{Stage, AtEnd, AtHalt, AtAsk, AtPart, stage_of}
 use Rattle.es_model.specs.programs.Abrupt.{then_flag, then_key, then_value}
+use Rattle.es_model.specs.programs.Converting.{to_number}
+use Rattle.es_model.specs.programs.Texts.{to_string}
 use Rattle.object_heap.specs.Stands.{HeapView, Goes, Halts, StandsFor}
 use Rattle.evaluator.specs.declared.items.AccessItem.{AccessItem}
 use Rattle.evaluator.specs.declared.items.AccessItem.TheVariants as access
@@ -61,10 +65,11 @@ use Rattle.evaluator.specs.Accesses.{key_converted, key_valued, read_reference}
 use Rattle.evaluator.specs.Assignments.{assign_reference, compound_reference, compound_valued, update_converted, update_number, update_reference}
 use Rattle.evaluator.specs.Calls.{arguments_at, arguments_from, callee_reference}
 use Rattle.evaluator.specs.Contexts.{Context, context, convert, evaluate, given, gives, normal}
-use Rattle.evaluator.specs.Literals.{getter, key_converted as literal_key, method_keyed, name_units, plain, properties_at, properties_from, properties_in}
+use Rattle.evaluator.specs.Functions.{name_units, prefix_units}
+use Rattle.evaluator.specs.Literals.{getter, key_converted as literal_key, plain, properties_at, properties_from, properties_in}
 use Rattle.evaluator.specs.Literals.{proto_of, setter, value_keyed}
 use Rattle.evaluator.specs.Operators.{add_primitives, apply, calculated, comma_at, comma_from, compare, flag_given, joined, minus_converted, negated, not_value}
-use Rattle.evaluator.specs.Operators.{right_number, right_primitive, right_text, right_valued, short_value, test_value, typeof_reference, typeof_value}
+use Rattle.evaluator.specs.Operators.{right_number, right_primitive, right_text, right_valued, short_value, test_value, to_primitive, typeof_reference, typeof_value}
 use Rattle.evaluator.specs.References.{delete_reference, get_value, got_again, put_again, put_value, unless_refused}
 use Rattle.evaluator.specs.Statements as statements
 use Rattle.evaluator.specs.Tasks.{node_program, round_program, statements_program}
@@ -104,7 +109,7 @@ reading_valued here reading.Give v = gives v
 reading_valued here (reading.Callee n this) v = arguments_from here (invocation.Call v this) (arguments_at here n) []
 reading_valued here reading.Typeof v = typeof_value v
 reading_valued here (reading.Compound op x r) v = evaluate here x (compound_valued here op r v)
-reading_valued here (reading.Update increment prefix r) v = convert operation.ToWhole v (update_converted here increment prefix r)
+reading_valued here (reading.Update increment prefix r) v = to_number v (update_converted here increment prefix r)
 reading_valued here (reading.Shorthand n next o k) v = define o k (plain v) (λ succeeded. definitions_from here n next o)
 
 abbrev pub reading_program : Context → Reading → Completion → Program
@@ -118,8 +123,8 @@ access_valued here (access.KeyValued base read write aim) v = convert operation.
 abbrev pub operator_valued : Context → OperatorItem → Value → Program
 operator_valued here operator.DeleteValued v = gives (value.Bool true)
 operator_valued here operator.VoidValued v = gives value.Undefined
-operator_valued here operator.PlusValued v = convert operation.ToWhole v given
-operator_valued here operator.MinusValued v = convert operation.ToWhole v minus_converted
+operator_valued here operator.PlusValued v = to_number v given
+operator_valued here operator.MinusValued v = to_number v minus_converted
 operator_valued here operator.NotValued v = not_value v
 operator_valued here (operator.LeftValued op right) v = evaluate here right (right_valued here op v)
 operator_valued here (operator.RightValued op left) v = compare here op left v
@@ -138,10 +143,10 @@ made_by made.Setter v = setter v
 -- The first of these property definitions, once its key is there. A name alone and `__proto__` have no key that is converted
 abbrev pub property_keyed : Context → ObjectId → List Property → PropKey → Program
 property_keyed here o [] k = gives (value.Object o)
-property_keyed here o (property.Value name v ∷ ps) k = value_keyed here o v (properties_from here o ps) k
-property_keyed here o (property.Method name m ∷ ps) k = method_keyed here o [] plain m (properties_from here o ps) k
-property_keyed here o (property.Getter name m ∷ ps) k = method_keyed here o (codes "get ") getter m (properties_from here o ps) k
-property_keyed here o (property.Setter name m ∷ ps) k = method_keyed here o (codes "set ") setter m (properties_from here o ps) k
+property_keyed here o (property.Value name v ∷ ps) k = value_keyed here o name_prefix.Nothing plain v (properties_from here o ps) k
+property_keyed here o (property.Method name m ∷ ps) k = value_keyed here o name_prefix.Nothing plain m (properties_from here o ps) k
+property_keyed here o (property.Getter name m ∷ ps) k = value_keyed here o name_prefix.Get getter m (properties_from here o ps) k
+property_keyed here o (property.Setter name m ∷ ps) k = value_keyed here o name_prefix.Set setter m (properties_from here o ps) k
 property_keyed here o (property.Shorthand named ∷ ps) k = gives (value.Object o)
 property_keyed here o (property.Prototype v ∷ ps) k = gives (value.Object o)
 
@@ -191,11 +196,11 @@ item_program here (item.Constructor n) c = then_value (λ f. arguments_from here
 abbrev pub value_answered : Context → ValueAsked → Value → Program
 value_answered here (value_asked.Read r) v = reading_valued here r v
 value_answered here value_asked.MinusConverted v = negated v
-value_answered here (value_asked.LeftPrimitive end right) v = convert operation.ToPrimitiveDefault right (right_primitive here end v)
+value_answered here (value_asked.LeftPrimitive end right) v = to_primitive right (right_primitive here end v)
 value_answered here (value_asked.RightPrimitive end left) v = add_primitives here end left v
-value_answered here (value_asked.LeftText end right) v = convert operation.ToText right (right_text here end v)
+value_answered here (value_asked.LeftText end right) v = to_string right (right_text here end v)
 value_answered here (value_asked.RightText end left) v = joined here end left v
-value_answered here (value_asked.LeftNumber op end right) v = convert operation.ToWhole right (right_number here op end v)
+value_answered here (value_asked.LeftNumber op end right) v = to_number right (right_number here op end v)
 value_answered here (value_asked.RightNumber op end left) v = calculated here op end left v
 value_answered here (value_asked.UpdateConverted increment prefix r) v = update_number here increment prefix r v
 
@@ -280,9 +285,9 @@ abbrev pub StandsAt : Tree → NodeId → ℕ → ℕ → Property → Type 0
 StandsAt script n at next p = drop at (properties_in (slice_get script.nodes n.0)) ≡ p ∷ drop next (properties_in (slice_get script.nodes n.0))
 
 -- the world after a key gave a name, where it is a text
-abbrev pub named_world : World → List ℕ → PropKey → Option TextId → World
-named_world w prefix k (Some id) = changed (Interning (prefix ++ name_units w.lists k)) w
-named_world w prefix k None = w
+abbrev pub named_world : World → NamePrefix → PropKey → Option TextId → World
+named_world w before k (Some id) = changed (Interning (prefix_units before ++ name_units w.lists k)) w
+named_world w before k None = w
 
 -- the world after one text and another are joined, where that is a text
 abbrev pub joined_world : World → TextId → TextId → Option TextId → World

@@ -15,6 +15,8 @@ use Rattle.es_model.specs.declared.intrinsics.Class.TheVariants as class
 use Rattle.es_model.specs.declared.intrinsics.Intrinsic.TheVariants as intrinsic
 use Rattle.es_model.specs.declared.kinds.CellNo.{CellNo}
 use Rattle.es_model.specs.declared.requests.Request.TheVariants.{Has, Read, Write, Delete}
+use Rattle.es_model.specs.declared.running.FunctionName.{FunctionName}
+use Rattle.es_model.specs.declared.running.FunctionName.TheVariants as given_name
 use Rattle.es_model.specs.Completions.{Completion}
 use Rattle.es_model.specs.StartObjects.{object_of}
 use Rattle.es_model.specs.World.{cell, units_of}
@@ -181,8 +183,8 @@ base_of (reference.Property base k read write) = base
 base_of other = value.Undefined
 
 -- the name that an anonymous function gets by an assignment to the reference (13.15.2)
-abbrev pub name_of : Reference → Option TextId
-name_of (reference.Cell name c constant) = Some name
-name_of (reference.Global name k present) = Some name
-name_of (reference.Callee name v) = Some name
+abbrev pub name_of : Reference → Option FunctionName
+name_of (reference.Cell name c constant) = Some (given_name.Text name)
+name_of (reference.Global name k present) = Some (given_name.Text name)
+name_of (reference.Callee name v) = Some (given_name.Text name)
 name_of other = None

@@ -12,6 +12,7 @@ use Rattle.es_tree.specs.declared.statements.Declared.{Declared}
 use Rattle.es_tree.specs.declared.statements.Statement.{Statement}
 use Rattle.es_tree.specs.declared.statements.Statement.TheVariants as statement
 use Rattle.es_tree.specs.Tree.{Tree}
+use Rattle.es_model.specs.declared.running.FunctionName.TheVariants as given_name
 use Rattle.es_model.specs.declared.running.Part.{Part}
 use Rattle.es_model.specs.declared.running.Part.TheVariants as part_of
 use Rattle.es_model.specs.Completions.{Completion, Normal, Break, Continue, Return, Throw}
@@ -89,7 +90,7 @@ block_last here block list = enter_scope here block.names (λ inner. statements 
 abbrev pub declare_first : Context → Declared → Option NodeId → Program → Program
 declare_first here d None next = initialise here d.named.binding value.Undefined next
 declare_first here d (Some n) next = make_text d.named.name (λ name.
-    evaluate_named here (Some name) n (λ c. then_value (λ v. initialise here d.named.binding v next) c))
+    evaluate_named here (Some (given_name.Text name)) n (λ c. then_value (λ v. initialise here d.named.binding v next) c))
 
 abbrev pub declare_all : Context → List Declared → Program
 declare_all here [] = falls

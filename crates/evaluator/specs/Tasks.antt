@@ -1,6 +1,5 @@
 -- The programs of the tasks of a running body: what each kind of node of the tree comes to (ECMA-262, clauses 13 to 16).
 use Rattle.std.specs.Prelude.{ℕ, Option, Some, None, List, slice_get}
-use Rattle.property_keys.specs.declared.identifiers.TextId.{TextId}
 use Rattle.es_tree.specs.declared.expressions.Access.{Access}
 use Rattle.es_tree.specs.declared.expressions.Access.TheVariants as access
 use Rattle.es_tree.specs.declared.expressions.Operator.{Operator}
@@ -11,6 +10,7 @@ use Rattle.es_tree.specs.declared.numbers.NodeId.{NodeId}
 use Rattle.es_tree.specs.Tree.{Tree}
 use Rattle.property_keys.specs.declared.values.Value.TheVariants as value
 use Rattle.es_model.specs.declared.kinds.CellNo.{CellNo}
+use Rattle.es_model.specs.declared.running.FunctionName.{FunctionName}
 use Rattle.es_model.specs.declared.running.Part.{Part}
 use Rattle.es_model.specs.declared.running.Running.{Running}
 use Rattle.es_model.specs.Program.{Program, charge}
@@ -38,7 +38,7 @@ access_program here n (access.Call callee arguments) = call_expression here n ca
 access_program here n (access.New callee arguments) = new_expression here n callee
 
 -- each node, after its turn
-abbrev pub node_of : Context → Option TextId → NodeId → Option Node → Program
+abbrev pub node_of : Context → Option FunctionName → NodeId → Option Node → Program
 node_of here name n None = falls
 node_of here name n (Some (node.Statement s)) = statement_program here n s
 node_of here name n (Some (node.Operator o)) = operator_program here n o
@@ -46,7 +46,7 @@ node_of here name n (Some (node.Access a)) = access_program here n a
 node_of here name n (Some (node.Primary p)) = primary_program here name n p
 
 -- a node: here is the one place of its turn
-abbrev pub node_program : Tree → Running → List CellNo → Option TextId → NodeId → Program
+abbrev pub node_program : Tree → Running → List CellNo → Option FunctionName → NodeId → Program
 node_program script body cells name n = charge 1 (node_of (context script body cells) name n (slice_get script.nodes n.0))
 
 -- the statements of a part of the tree from a number on

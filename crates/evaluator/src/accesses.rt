@@ -34,19 +34,19 @@ use crate::texts::{intern, key_of};
 use crate::tree::node_at;
 use crate::values::object_or_undefined;
 use crate::writing::delete_reference;
-use es_model::{CellNo, Intrinsic, Operation, Request, Running, Stop};
+use es_model::{CellNo, FunctionName, Intrinsic, Operation, Request, Running, Stop};
 use es_tree::{Access, Binding, Checked, Named, Node, NodeId, SiteId, Target};
 use object_heap::Heap;
 use property_keys::{Ledger, PropKey, Steps, TextId, Units, Value};
 
 /// The name that an anonymous function gets by an assignment to a reference (13.15.2).
-fn name_of(reference: Reference) -> Option<TextId>
+fn name_of(reference: Reference) -> Option<FunctionName>
     ensures { result ≡ name_of reference }
 {
     match reference {
         Reference::Cell { name, .. }
         | Reference::Global { name, .. }
-        | Reference::Callee { name, .. } => Some(name),
+        | Reference::Callee { name, .. } => Some(FunctionName::Text(name)),
         Reference::Arguments { .. } | Reference::Property { .. } => None,
     }
 }

@@ -15,15 +15,17 @@ ghost use Rattle.es_model.specs.Fits.{IsKnownCompletion};
 ghost use Rattle.evaluator.specs.Names.{NamesPlan, names_of_asked, names_of_flag_asked, names_of_key_asked, names_of_value_asked};
 
 use crate::accesses::{property_reference, purpose_plan};
-use crate::arithmetic::{add_primitives, calculated, joined, negated, update_number};
+use crate::arithmetic::{
+    add_primitives, calculated, joined, negated, right_number, right_primitive, right_text,
+    update_number,
+};
 use crate::cells::Cells;
 use crate::definitions::{definition_keyed, properties_from};
 use crate::items::{Asked, Ending, FlagAsked, KeyAsked, Plan, ValueAsked};
 use crate::reading::{get_value, got_again, reading_valued};
 use crate::references::Reference;
-use crate::requests::convert;
 use crate::writing::{put_again, unless_refused};
-use es_model::{Completion, Operation, Request, Running, Stop};
+use es_model::{Completion, Request, Running, Stop};
 use es_tree::Checked;
 use object_heap::Heap;
 use property_keys::{Ledger, PropKey, Steps, TextId, Value};
@@ -62,41 +64,15 @@ fn value_answered<L: Ledger>(
             heap, script, body, cells, reading, value, steps,
         ),
         ValueAsked::MinusConverted => negated(heap, script, body, cells, value, steps),
-        ValueAsked::LeftPrimitive { finish, right } => {
-            let next = ValueAsked::RightPrimitive {
-                finish,
-                left: value,
-            };
-            convert(
-                heap,
-                script,
-                body,
-                cells,
-                Operation::ToPrimitiveDefault,
-                right,
-                Asked::Value(next),
-                steps,
-            )
-        }
+        ValueAsked::LeftPrimitive { finish, right } => right_primitive(
+            heap, script, body, cells, finish, value, right, steps,
+        ),
         ValueAsked::RightPrimitive { finish, left } => add_primitives(
             heap, script, body, cells, finish, left, value, steps,
         ),
-        ValueAsked::LeftText { finish, right } => {
-            let next = ValueAsked::RightText {
-                finish,
-                left: value,
-            };
-            convert(
-                heap,
-                script,
-                body,
-                cells,
-                Operation::ToText,
-                right,
-                Asked::Value(next),
-                steps,
-            )
-        }
+        ValueAsked::LeftText { finish, right } => right_text(
+            heap, script, body, cells, finish, value, right, steps,
+        ),
         ValueAsked::RightText { finish, left } => joined(
             heap, script, body, cells, finish, left, value, steps,
         ),
@@ -104,23 +80,9 @@ fn value_answered<L: Ledger>(
             operator,
             finish,
             right,
-        } => {
-            let next = ValueAsked::RightNumber {
-                operator,
-                finish,
-                left: value,
-            };
-            convert(
-                heap,
-                script,
-                body,
-                cells,
-                Operation::ToWhole,
-                right,
-                Asked::Value(next),
-                steps,
-            )
-        }
+        } => right_number(
+            heap, script, body, cells, operator, finish, value, right, steps,
+        ),
         ValueAsked::RightNumber {
             operator,
             finish,

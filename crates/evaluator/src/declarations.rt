@@ -17,7 +17,7 @@ use crate::endings::value_of;
 use crate::items::{Ending, Item, Job, Plan, StatementItem};
 use crate::texts::intern;
 use crate::tree::node_at;
-use es_model::{CellNo, Running, Stop};
+use es_model::{CellNo, FunctionName, Running, Stop};
 use es_tree::{Binding, Checked, Declared, Items, Node, NodeId, Statement};
 use object_heap::Heap;
 use property_keys::{Ledger, Steps, Value};
@@ -152,7 +152,7 @@ pub(crate) fn declare_from<L: Ledger>(
                     let name = intern(heap, &declared.named.name)?;
                     return Ok(Plan::Wait(
                         Job::Node {
-                            name: Some(name),
+                            name: Some(FunctionName::Text(name)),
                             node: value,
                         },
                         Item::Statement(StatementItem::Declared { node, next }),

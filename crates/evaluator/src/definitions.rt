@@ -1,15 +1,16 @@
 //! Property definitions of an object literal (ECMA-262, 13.2.5).
 
-ghost use Rattle.std.specs.Prelude.{◌≡◌, ◌≤◌, ◌∷◌, ◌+◌, [], None, Ok, Some, drop, length, slice_get, MatchOption, OnOk};
+ghost use Rattle.std.specs.Prelude.{◌≡◌, ◌∷◌, ◌+◌, [], None, Ok, Some, drop, length, slice_get, MatchOption, OnOk};
 ghost use Rattle.es_tree.specs.declared.node.Node.TheVariants as node_of;
 ghost use Rattle.es_tree.specs.declared.names.Binding.TheVariants as binding_of;
 ghost use Rattle.es_tree.specs.declared.primaries.Property.TheVariants as property_of;
 ghost use Rattle.es_model.specs.Changes.{Defining, changed};
+ghost use Rattle.es_model.specs.declared.running.FunctionName.TheVariants as given_name;
 ghost use Rattle.es_model.specs.Program.{Program, define, look};
 ghost use Rattle.es_model.specs.Stages.{stage_of};
 ghost use Rattle.es_model.specs.World.{World, cell as cell_of, Lists};
 ghost use Rattle.evaluator.specs.Contexts.{Context};
-ghost use Rattle.evaluator.specs.Literals.{accessor, method_keyed, plain, properties_at, properties_in, property_key, property_then, property_valued, value_keyed};
+ghost use Rattle.evaluator.specs.Literals.{accessor, plain, properties_at, properties_in, property_key, property_then, property_valued};
 ghost use Rattle.evaluator.specs.Plans.{Defines, DefinesAt, Plans, PlansAt, StandsAt, definitions_from, literal_valued, made_by, property_keyed};
 ghost use Rattle.evaluator.specs.References.{cell_value, get_value, resolve_bound};
 ghost use Rattle.evaluator.specs.declared.items.Ending.TheVariants as ending;
@@ -29,14 +30,13 @@ use crate::cells::Cells;
 use crate::items::{
     Asked, Ending, FlagAsked, Item, Job, KeyAsked, LiteralItem, Made, Plan, Reading,
 };
-use crate::messages::{not_initialised, text_too_long};
-use crate::names::{is_anonymous, name_of_key};
+use crate::messages::not_initialised;
 use crate::requests::convert;
 use crate::texts::{intern, key_of};
 use crate::tree::node_at;
 use crate::values::object_or_undefined;
 use descriptors::Descriptor;
-use es_model::{CellNo, Intrinsic, Operation, Request, Running, Stop};
+use es_model::{CellNo, FunctionName, Intrinsic, NamePrefix, Operation, Request, Running, Stop};
 use es_tree::{Binding, Checked, Items, Key, Named, Node, NodeId, Primary, Property};
 use object_heap::Heap;
 use property_keys::{Ledger, NoMemory, ObjectId, PropKey, Steps, TextId, Value};
@@ -207,14 +207,15 @@ fn whole(object: ObjectId) -> Plan
     Plan::Ends(Ending::Gives(Value::Object(object)))
 }
 
-fn wait_for(
-    name: Option<TextId>,
+/// The value of a definition, a method or an accessor (15.4.5): an anonymous function gets the key as its name.
+fn value_keyed(
     value: NodeId,
     place: Definition,
     key: PropKey,
+    prefix: NamePrefix,
     made: Made,
 ) -> Plan
-    ensures { result ≡ plan.Wait (job.Node name value) (item_of.Literal (literal.PropertyValued place.node place.next place.object key made)) }
+    ensures { result ≡ plan.Wait (job.Node (Some (given_name.Key prefix key)) value) (item_of.Literal (literal.PropertyValued place.node place.next place.object key made)) }
 {
     let item = LiteralItem::PropertyValued {
         node: place.node,
@@ -223,56 +224,12 @@ fn wait_for(
         key,
         made,
     };
-    Plan::Wait(Job::Node { name, node: value }, Item::Literal(item))
-}
-
-/// A method or an accessor (15.4.5), which gets the key as its name.
-fn method_keyed<L: Ledger>(
-    heap: &mut Heap,
-    script: &Checked,
-    body: Running,
-    cells: &Cells,
-    place: Definition,
-    key: PropKey,
-    prefix: &[u8],
-    made: Made,
-    method: NodeId,
-    steps: &mut Steps<L>,
-) -> Result<Plan, Stop>
-    requires { length prefix.now ≤ 100 }
-    ensures plans { PlansAt script.now body cells.now heap.old heap.new (λ here. method_keyed here place.object prefix.now (made_by made) method (definitions_from here place.node place.next place.object) key) result }
-    ensures named { (l : Lists) → IsObject l place.object → IsKnownKey l key → NamesPlan script.now l result }
-    ensures retains { Retains heap.old heap.new }
-{
-    match name_of_key(heap, prefix, key)? {
-        None => text_too_long(heap, script, body, cells, steps),
-        Some(name) => Ok(wait_for(Some(name), method, place, key, made)),
-    }
-}
-
-/// The value of a definition: an anonymous function gets the key as its name.
-fn value_keyed<L: Ledger>(
-    heap: &mut Heap,
-    script: &Checked,
-    body: Running,
-    cells: &Cells,
-    place: Definition,
-    key: PropKey,
-    value: NodeId,
-    steps: &mut Steps<L>,
-) -> Result<Plan, Stop>
-    ensures plans { PlansAt script.now body cells.now heap.old heap.new (λ here. value_keyed here place.object value (definitions_from here place.node place.next place.object) key) result }
-    ensures named { (l : Lists) → IsObject l place.object → IsKnownKey l key → NamesPlan script.now l result }
-    ensures retains { Retains heap.old heap.new }
-{
-    if is_anonymous(script, value) {
-        let made = Made::Plain;
-        method_keyed(
-            heap, script, body, cells, place, key, b"", made, value, steps,
-        )
-    } else {
-        Ok(wait_for(None, value, place, key, Made::Plain))
-    }
+    let name = FunctionName::Key(prefix, key);
+    let part = Job::Node {
+        name: Some(name),
+        node: value,
+    };
+    Plan::Wait(part, Item::Literal(item))
 }
 
 /// A property definition, once its key is there.
@@ -291,26 +248,21 @@ fn property_keyed<L: Ledger>(
     ensures retains { Retains heap.old heap.new }
 {
     match property {
-        Property::Value { value, .. } => value_keyed(
-            heap, script, body, cells, place, key, *value, steps,
-        ),
+        Property::Value { value, .. } => {
+            let prefix = NamePrefix::Nothing;
+            Ok(value_keyed(*value, place, key, prefix, Made::Plain))
+        }
         Property::Method { method, .. } => {
-            let made = Made::Plain;
-            method_keyed(
-                heap, script, body, cells, place, key, b"", made, *method, steps,
-            )
+            let prefix = NamePrefix::Nothing;
+            Ok(value_keyed(*method, place, key, prefix, Made::Plain))
         }
         Property::Getter { method, .. } => {
-            let made = Made::Getter;
-            method_keyed(
-                heap, script, body, cells, place, key, b"get ", made, *method, steps,
-            )
+            let prefix = NamePrefix::Get;
+            Ok(value_keyed(*method, place, key, prefix, Made::Getter))
         }
         Property::Setter { method, .. } => {
-            let made = Made::Setter;
-            method_keyed(
-                heap, script, body, cells, place, key, b"set ", made, *method, steps,
-            )
+            let prefix = NamePrefix::Set;
+            Ok(value_keyed(*method, place, key, prefix, Made::Setter))
         }
         Property::Shorthand(_) | Property::Prototype(_) => Ok(whole(place.object)),
     }

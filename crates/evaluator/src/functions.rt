@@ -5,7 +5,7 @@ ghost use Rattle.es_tree.specs.Tree.{Tree};
 ghost use Rattle.es_model.specs.World.{Lists, World};
 ghost use Rattle.evaluator.specs.Contexts.{context};
 ghost use Rattle.evaluator.specs.Functions.{bind_declared, declare_found, function_name, make_function};
-ghost use Rattle.evaluator.specs.Entering.{Brings, Declares};
+ghost use Rattle.evaluator.specs.Entering.{Brings, Declares, Makes};
 ghost use Rattle.evaluator.specs.Names.{NamesPlan};
 ghost use Rattle.evaluator.specs.Plans.{PlansAt};
 ghost use Rattle.object_heap.specs.Retains.{Retains};
@@ -14,42 +14,45 @@ ghost use Rattle.object_heap.specs.Stands.{StandsFor};
 use crate::cells::Cells;
 use crate::declarations::bound_cell;
 use crate::items::{Ending, Plan};
+use crate::messages::text_too_long;
+use crate::names::name_of_key;
 use crate::texts::{intern, key_of};
 use crate::tree::facts_at;
 use descriptors::Descriptor;
-use es_model::{Intrinsic, Running, Stop};
+use es_model::{FunctionName, Intrinsic, Running, Stop};
 use es_tree::{Body, Checked, DeclaredFunction, FunctionNo};
-use function_objects::function_made;
+use function_objects::{create_function, function_made, name_function};
 use object_heap::Heap;
 use property_keys::{Ledger, NoMemory, ObjectId, Steps, TextId, Units, Value};
 
 // ---- function expressions, methods and accessors
 
-/// The name that is written at a function; else the one that it gets where it stands; else the empty text.
+/// The name that is written at a function; else what it gets where it stands; else the empty text. None where it would have too many code units.
 fn function_name(
     heap: &mut Heap,
     written: &Option<Units>,
-    given: Option<TextId>,
-) -> Result<TextId, NoMemory>
-    ensures brings { IfOk result (λ name. (w : World) → StandsFor heap.old w → Brings heap.old heap.new w (function_name written.now given) name) }
+    given: Option<FunctionName>,
+) -> Result<Option<TextId>, NoMemory>
+    ensures makes { IfOk result (λ name. (w : World) → StandsFor heap.old w → Makes heap.old heap.new w (function_name written.now given) name) }
     ensures retains { Retains heap.old heap.new }
 {
     match written {
-        Some(units) => intern(heap, units),
+        Some(units) => Ok(Some(intern(heap, units)?)),
         None => match given {
-            Some(name) => Ok(name),
-            None => heap.word(b""),
+            Some(FunctionName::Text(name)) => Ok(Some(name)),
+            Some(FunctionName::Key(prefix, key)) => name_of_key(heap, prefix, key),
+            None => Ok(Some(heap.word(b"")?)),
         },
     }
 }
 
-/// A function expression, a method or an accessor is made, with a name where it has none of its own (15.2.5, 15.4.4).
+/// A function expression, a method or an accessor is made, and then its name, where it has none of its own (15.2.5, 15.4.4).
 pub(crate) fn make_function<L: Ledger>(
     heap: &mut Heap,
     script: &Checked,
     body: Running,
     cells: &Cells,
-    name: Option<TextId>,
+    name: Option<FunctionName>,
     function: FunctionNo,
     steps: &mut Steps<L>,
 ) -> Result<Plan, Stop>
@@ -59,9 +62,14 @@ pub(crate) fn make_function<L: Ledger>(
     ensures retains { Retains heap.old heap.new }
 {
     let facts = *script.function(function);
-    let name = function_name(heap, &script.body(function).name, name)?;
-    let object = function_made(heap, function, facts, name, steps)?;
-    Ok(Plan::Ends(Ending::Gives(Value::Object(object))))
+    let object = create_function(heap, function, facts, steps)?;
+    match function_name(heap, &script.body(function).name, name)? {
+        None => text_too_long(heap, script, body, cells, steps),
+        Some(name) => {
+            name_function(heap, object, facts, name, steps)?;
+            Ok(Plan::Ends(Ending::Gives(Value::Object(object))))
+        }
+    }
 }
 
 // ---- declared functions

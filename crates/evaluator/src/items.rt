@@ -2,7 +2,7 @@
 
 use crate::cells::Cells;
 use crate::references::{Arithmetic, Finish, Invocation, Reference};
-use es_model::{Completion, Part, Request, Running, Values};
+use es_model::{Completion, FunctionName, Part, Request, Running, Values};
 use es_tree::{BinaryOperator, NodeId, ShortOperator, SiteId};
 use property_keys::{ObjectId, PropKey, TextId, Value};
 
@@ -334,7 +334,10 @@ pub(crate) enum Asked {
 /// What is done inside a body: a node, with the name that an anonymous function gets there, a round of a loop, or the statements of a list from a number on.
 #[derive(Clone, Copy)]
 pub(crate) enum Job {
-    Node { name: Option<TextId>, node: NodeId },
+    Node {
+        name: Option<FunctionName>,
+        node: NodeId,
+    },
     Round(NodeId),
     Statements(Part, usize),
 }

@@ -37,10 +37,10 @@ use crate::reading::reading_valued;
 use crate::references::Invocation;
 use crate::statement_plans::{statement_item_plan, statement_plan};
 use crate::statements::{falls, next_statement, round};
-use es_model::{Running, Stop, Values};
+use es_model::{FunctionName, Running, Stop, Values};
 use es_tree::{Access, BinaryOperator, Checked, Node, NodeId, Operator, ShortOperator, Target};
 use object_heap::Heap;
-use property_keys::{Ledger, Steps, TextId, Value};
+use property_keys::{Ledger, Steps, Value};
 
 fn wait_for(node: NodeId, item: OperatorItem) -> Plan
     ensures { result ≡ plan.Wait (job.Node None node) (item_of.Operator item) }
@@ -192,7 +192,7 @@ fn node_plan<L: Ledger>(
     script: &Checked,
     body: Running,
     cells: &mut Cells,
-    name: Option<TextId>,
+    name: Option<FunctionName>,
     node: NodeId,
     found: &Node,
     steps: &mut Steps<L>,
@@ -222,7 +222,7 @@ fn node_at<L: Ledger>(
     script: &Checked,
     body: Running,
     cells: &mut Cells,
-    name: Option<TextId>,
+    name: Option<FunctionName>,
     node: NodeId,
     steps: &mut Steps<L>,
 ) -> Result<Plan, Stop>

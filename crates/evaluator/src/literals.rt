@@ -27,10 +27,10 @@ use crate::items::{Ending, Plan, Purpose};
 use crate::messages::out_of_profile;
 use crate::texts::intern;
 use crate::values::whole_of;
-use es_model::{Class, Intrinsic, ObjectKind, Running, Stop};
+use es_model::{Class, FunctionName, Intrinsic, ObjectKind, Running, Stop};
 use es_tree::{Checked, LiteralNo, NodeId, Primary};
 use object_heap::{Heap, literal_places};
-use property_keys::{Ledger, Steps, TextId, Units, Value};
+use property_keys::{Ledger, Steps, Units, Value};
 use slack_tracking::OriginKind;
 
 pub(crate) fn number<L: Ledger>(
@@ -103,7 +103,7 @@ pub(crate) fn primary_plan<L: Ledger>(
     script: &Checked,
     body: Running,
     cells: &Cells,
-    name: Option<TextId>,
+    name: Option<FunctionName>,
     node: NodeId,
     primary: &Primary,
     steps: &mut Steps<L>,

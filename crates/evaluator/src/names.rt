@@ -1,19 +1,18 @@
 //! Names of functions by their keys (ECMA-262, 10.2.9).
 
-ghost use Rattle.std.specs.Prelude.{◌≡◌, ◌≤◌, ◌++◌, ◌∷◌, [], Some, IfOk, IfSome, is_some, length, nat_le, slice_get};
+ghost use Rattle.std.specs.Prelude.{◌≡◌, ◌≤◌, ◌++◌, ◌∷◌, [], Some, IfOk, IfSome, is_some, length, nat_le};
 ghost use Rattle.std.specs.Fmt.{decimal};
 ghost use Rattle.property_keys.specs.declared.keys.PropKey.TheVariants.{Sym};
 ghost use Rattle.property_keys.specs.Limits.{most_units};
 ghost use Rattle.es_model.specs.World.{World, description, number_of};
-ghost use Rattle.evaluator.specs.Literals.{bracketed, has_no_name, is_anonymous, name_units};
+ghost use Rattle.evaluator.specs.Functions.{bracketed, name_units, prefix_units};
 ghost use Rattle.evaluator.specs.Lists.{Appends};
 ghost use Rattle.evaluator.specs.Plans.{named_world};
 ghost use Rattle.object_heap.specs.Retains.{Retains};
 ghost use Rattle.object_heap.specs.Stands.{Goes, StandsFor};
 
 use crate::texts::units_of;
-use crate::tree::node_at;
-use es_tree::{Checked, FunctionNo, Node, NodeId, Primary};
+use es_model::NamePrefix;
 use object_heap::Heap;
 use property_keys::{KeyFault, MOST_UNITS, NoMemory, PropKey, SymbolId, TextId, Units};
 use std::alloc::Global;
@@ -100,64 +99,33 @@ fn append_key(heap: &Heap, units: &mut Units, key: PropKey) -> Result<bool, NoMe
     }
 }
 
+/// What stands before the key (10.2.9, step 5).
+fn prefix_text(prefix: NamePrefix) -> &'static [u8]
+    ensures text { result.now ≡ prefix_units prefix }
+    ensures short { length result.now ≤ 100 }
+{
+    match prefix {
+        NamePrefix::Nothing => b"",
+        NamePrefix::Get => b"get ",
+        NamePrefix::Set => b"set ",
+    }
+}
+
 /// The name that a key gives a function, behind a prefix, or None where it has too many code units, and then nothing changes.
 pub(crate) fn name_of_key(
     heap: &mut Heap,
-    prefix: &[u8],
+    prefix: NamePrefix,
     key: PropKey,
 ) -> Result<Option<TextId>, NoMemory>
-    requires { length prefix.now ≤ 100 }
-    ensures fits { IfOk result (λ text. (w : World) → StandsFor heap.old w → nat_le (length (prefix.now ++ name_units w.lists key)) most_units ≡ is_some text) }
-    ensures number { IfOk result (λ text. IfSome text (λ id. (w : World) → StandsFor heap.old w → id ≡ number_of w.lists (prefix.now ++ name_units w.lists key))) }
-    ensures goes { IfOk result (λ text. (w : World) → StandsFor heap.old w → Goes heap.old heap.new w (named_world w prefix.now key text)) }
+    ensures fits { IfOk result (λ text. (w : World) → StandsFor heap.old w → nat_le (length (prefix_units prefix ++ name_units w.lists key)) most_units ≡ is_some text) }
+    ensures number { IfOk result (λ text. IfSome text (λ id. (w : World) → StandsFor heap.old w → id ≡ number_of w.lists (prefix_units prefix ++ name_units w.lists key))) }
+    ensures goes { IfOk result (λ text. (w : World) → StandsFor heap.old w → Goes heap.old heap.new w (named_world w prefix key text)) }
     ensures retains { Retains heap.old heap.new }
 {
-    let mut units = units_of(heap.alloc(), prefix)?;
+    let mut units = units_of(heap.alloc(), prefix_text(prefix))?;
     if append_key(heap, &mut units, key)? {
         Ok(Some(heap.intern(units)?))
     } else {
         Ok(None)
-    }
-}
-
-fn has_no_name(script: &Checked, f: FunctionNo) -> bool
-    ensures { result ≡ has_no_name (slice_get script.now.bodies f.0) }
-{
-    if f.0 < script.functions() {
-        script.body(f).name.is_none()
-    } else {
-        // The tree has a body for each function.
-        let _code = script.script();
-        false
-    }
-}
-
-fn is_anonymous_node(script: &Checked, node: &Node) -> bool
-    ensures { result ≡ is_anonymous script.now (Some node.now) }
-{
-    match node {
-        Node::Primary(primary) => match primary {
-            Primary::Function(f) => has_no_name(script, *f),
-            Primary::This
-            | Primary::Name(_)
-            | Primary::Number(_)
-            | Primary::Text(_)
-            | Primary::Null
-            | Primary::Bool(_)
-            | Primary::Array(_)
-            | Primary::Object { .. }
-            | Primary::Method(_) => false,
-        },
-        Node::Statement(_) | Node::Operator(_) | Node::Access(_) => false,
-    }
-}
-
-/// IsAnonymousFunctionDefinition (8.4.4).
-pub(crate) fn is_anonymous(script: &Checked, n: NodeId) -> bool
-    ensures { result ≡ is_anonymous script.now (slice_get script.now.nodes n.0) }
-{
-    match node_at(script, n) {
-        None => false,
-        Some(node) => is_anonymous_node(script, node),
     }
 }

@@ -19,10 +19,10 @@ ghost use Rattle.es_model.specs.Kept.{IsKnownRunning};
 ghost use Rattle.evaluator.specs.Names.{NamesPlan, names_of_operator, names_of_reference};
 
 use crate::accesses::{access_target, resolve};
-use crate::arithmetic::apply;
+use crate::arithmetic::{apply, minus_value, plus_value};
 use crate::cells::Cells;
 use crate::items::{
-    Asked, Ending, FlagAsked, Item, Job, KeyAsked, OperatorItem, Plan, Purpose, Reading, ValueAsked,
+    Asked, Ending, FlagAsked, Item, Job, KeyAsked, OperatorItem, Plan, Purpose, Reading,
 };
 use crate::messages::not_an_object;
 use crate::reading::get_value;
@@ -322,7 +322,7 @@ fn compare<L: Ledger>(
     steps: &mut Steps<L>,
 ) -> Result<Plan, Stop>
     ensures plans { PlansAt script.now body cells.now heap.old heap.new (λ here. compare here operator a b) result }
-    ensures named { (l : Lists) → IsKnown l a → IsKnown l b → NamesPlan script.now l result }
+    ensures named { (w v : World) → StandsFor heap.old w → StandsFor heap.new v → IsKnown v.lists a → IsKnown v.lists b → NamesPlan script.now v.lists result }
     ensures retains { Retains heap.old heap.new }
 {
     let given = Asked::Flag(FlagAsked::FlagGiven);
@@ -372,10 +372,10 @@ fn compare<L: Ledger>(
             b,
             steps,
         ),
-        BinaryOperator::Less => is_less(heap, script, body, cells, a, b, true, given, steps),
-        BinaryOperator::Greater => is_less(heap, script, body, cells, b, a, false, given, steps),
-        BinaryOperator::AtMost => is_less(heap, script, body, cells, b, a, false, denied, steps),
-        BinaryOperator::AtLeast => is_less(heap, script, body, cells, a, b, true, denied, steps),
+        BinaryOperator::Less => is_less(heap, script, body, cells, a, b, true, false, steps),
+        BinaryOperator::Greater => is_less(heap, script, body, cells, b, a, false, false, steps),
+        BinaryOperator::AtMost => is_less(heap, script, body, cells, b, a, false, true, steps),
+        BinaryOperator::AtLeast => is_less(heap, script, body, cells, a, b, true, true, steps),
         BinaryOperator::InstanceOf => ask_of_two(
             heap,
             script,
@@ -503,37 +503,14 @@ pub(crate) fn operator_valued<L: Ledger>(
     steps: &mut Steps<L>,
 ) -> Result<Plan, Stop>
     ensures plans { PlansAt script.now body cells.now heap.old heap.new (λ here. operator_valued here item value) result }
-    ensures named { (l : Lists) → HasNames script.now l (names_of_operator item) → IsKnown l value → NamesPlan script.now l result }
+    ensures named { (w v : World) → StandsFor heap.old w → StandsFor heap.new v → HasNames script.now v.lists (names_of_operator item) → IsKnown v.lists value → NamesPlan script.now v.lists result }
     ensures retains { Retains heap.old heap.new }
 {
     match item {
         OperatorItem::DeleteValued => Ok(Plan::Ends(Ending::Gives(Value::Bool(true)))),
         OperatorItem::VoidValued => Ok(Plan::Ends(Ending::Gives(Value::Undefined))),
-        OperatorItem::PlusValued => {
-            let next = Asked::Value(ValueAsked::Read(Reading::Give));
-            convert(
-                heap,
-                script,
-                body,
-                cells,
-                Operation::ToWhole,
-                value,
-                next,
-                steps,
-            )
-        }
-        OperatorItem::MinusValued => {
-            convert(
-                heap,
-                script,
-                body,
-                cells,
-                Operation::ToWhole,
-                value,
-                Asked::Value(ValueAsked::MinusConverted),
-                steps,
-            )
-        }
+        OperatorItem::PlusValued => plus_value(heap, script, body, cells, value, steps),
+        OperatorItem::MinusValued => minus_value(heap, script, body, cells, value, steps),
         OperatorItem::NotValued => {
             Ok(Plan::Ends(Ending::Gives(Value::Bool(!heap.is_truth(value)))))
         }

@@ -17,6 +17,7 @@ ghost use Rattle.es_tree.specs.Tree.{IsSite};
 ghost use Rattle.es_model.specs.Belongs.{HasNames};
 ghost use Rattle.evaluator.specs.Names.{NamesPlan, names_of_reading, names_of_reference};
 
+use crate::arithmetic::update_value;
 use crate::calls::arguments_from;
 use crate::cells::Cells;
 use crate::definitions::property_valued;
@@ -26,9 +27,8 @@ use crate::items::{
 use crate::messages::{not_an_object, not_defined, not_initialised};
 use crate::operators::typeof_value;
 use crate::references::{Arithmetic, Invocation, Reference};
-use crate::requests::convert;
 use crate::texts::{text_len, text_unit, unit_text};
-use es_model::{Class, Intrinsic, Operation, Request, Running, StartText, Stop, Values};
+use es_model::{Class, Intrinsic, Request, Running, StartText, Stop, Values};
 use es_tree::{Checked, NodeId, SiteId};
 use object_heap::Heap;
 use property_keys::{Ledger, PropKey, Steps, TextId, Value};
@@ -81,16 +81,9 @@ pub(crate) fn reading_valued<L: Ledger>(
             increment,
             prefix,
             reference,
-        } => {
-            let next = ValueAsked::UpdateConverted {
-                increment,
-                prefix,
-                reference,
-            };
-            let operation = Operation::ToWhole;
-            let asked = Asked::Value(next);
-            convert(heap, script, body, cells, operation, value, asked, steps)
-        }
+        } => update_value(
+            heap, script, body, cells, increment, prefix, reference, value, steps,
+        ),
         Reading::Shorthand {
             node,
             next,

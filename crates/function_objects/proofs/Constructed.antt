@@ -238,7 +238,7 @@ constructed_later facts proto w = later-changed _ w
 
 pub constructed_sound : (facts : FunctionFacts) (proto : ObjectId) (w : World) → IsSound w → IsObject w.lists proto → IsSound (constructed_world facts proto w)
 unfolding constructed_world
-constructed_sound facts proto w s there = sound-making w kind_of.Ordinary (OfConstructor (constructor_number w.script facts)) (Some proto) s tt tt there
+constructed_sound facts proto w s there = sound-making w kind_of.Ordinary (OfConstructor (constructor_number w.script facts)) (Some proto) s tt tt there refl
 
 pub constructed_there : (facts : FunctionFacts) (proto : ObjectId) (w : World) → IsObject (constructed_world facts proto w).lists (new_object w.lists)
 unfolding constructed_world
@@ -249,7 +249,7 @@ pub constructed_kept : (P : Lists → Completion → Type 0) (script : Tree) (fa
     ((o : ObjectId) (u : World) → IsSound u → IsLater w u → IsObject u.lists o → IsKept P (next o) u) → IsKept P (make_constructed script facts proto next) w
 constructed_kept P script facts proto next w s there h =
     let origin : Origin = OfConstructor (constructor_number script facts) in
-    h (new_object w.lists) (changed (Making kind_of.Ordinary origin (Some proto)) w) (sound-making w kind_of.Ordinary origin (Some proto) s tt tt there)
+    h (new_object w.lists) (changed (Making kind_of.Ordinary origin (Some proto)) w) (sound-making w kind_of.Ordinary origin (Some proto) s tt tt there refl)
     (later-changed (Making kind_of.Ordinary origin (Some proto)) w) (made-there w origin (Some proto))
 
 pub constructed_within : (r b : ℕ) (script : Tree) (facts : FunctionFacts) (proto : ObjectId) (next : ObjectId → Program) → ((o : ObjectId) → IsWithin r b (next o)) → IsWithin r b (make_constructed script facts proto next)

@@ -1,7 +1,6 @@
 -- A function of the script that is made: what its program comes to, and that worlds stay sound.
-use Rattle.std.proofs.Common.{◌≡◌, ◌≤◌, ℕ, Bool, true, false, cond, Option, Some, None, List, [], ◌∷◌, ◌++◌, length, refl, sym, ◌∙◌, subst, arith}
+use Rattle.std.proofs.Common.{◌≡◌, ◌≤◌, ℕ, Bool, true, false, cond, Option, Some, None, List, length, refl, sym, ◌∙◌, subst, arith}
 use Rattle.std.specs.Prelude.{codes, min, slice_get}
-use Rattle.std.proofs.lemmas.List.{length-append}
 use Rattle.property_keys.specs.declared.identifiers.ObjectId.{ObjectId}
 use Rattle.property_keys.specs.declared.identifiers.TextId.{TextId}
 use Rattle.property_keys.specs.declared.keys.PropKey.TheVariants.{Name}
@@ -16,12 +15,11 @@ use Rattle.es_tree.specs.Tree.{top_names}
 use Rattle.es_model.specs.declared.intrinsics.Class.TheVariants as class
 use Rattle.es_model.specs.declared.intrinsics.Intrinsic.TheVariants as intrinsic
 use Rattle.es_model.specs.declared.kinds.ObjectKind.TheVariants as kind_of
-use Rattle.es_model.specs.Changes.{Defining, Interning, changed, made, with_objects}
+use Rattle.es_model.specs.Changes.{Defining, Interning, changed}
 use Rattle.es_model.specs.Completions.{Completion}
 use Rattle.es_model.specs.Events.{OfFunction, OfPlain}
 use Rattle.es_model.specs.Kept.{IsKept, IsLater}
 use Rattle.es_model.specs.Known.{IsKnown, IsKnownDescriptor, IsObject, IsText}
-use Rattle.es_model.specs.Objects.{new_object_of}
 use Rattle.es_model.specs.Program.{Program}
 use Rattle.es_model.specs.Sound.{HasFlags, IsShort, IsSound}
 use Rattle.es_model.specs.Stages.{stage_of}
@@ -33,8 +31,9 @@ use Rattle.es_model.proofs.Growing.{grows-changed}
 use Rattle.es_model.proofs.Keeping.{later_then}
 use Rattle.es_model.proofs.KnownLater.{descriptor-later, object-later, text-later}
 use Rattle.es_model.proofs.SharedKept.{later-changed, name-known, whole-of}
+use Rattle.es_model.proofs.ArrayLengths.{IsNoArray, no_array-later, no_array-leaves}
+use Rattle.es_model.proofs.SoundArrays.{made-no_array}
 use Rattle.es_model.proofs.SoundChanges.{sound-defining, sound-interning, sound-making}
-use Rattle.es_model.proofs.SoundErrors.{noted-objects}
 use Rattle.es_model.proofs.Within.{within-cond}
 use Rattle.object_heap.specs.Stands.{HeapView, StandsFor}
 use Rattle.object_heap.proofs.Standing.{count-stands}
@@ -50,12 +49,12 @@ constructor_stage : (o : ObjectId) (next : Program) (w : World) → stage_of (ma
 unfolding constructor_world prototype_made
 constructor_stage o next w = refl
 
-named_stage : (o : ObjectId) (facts : FunctionFacts) (name : TextId) (next : Program) (w : World) → stage_of (name_function o facts name next) w ≡ stage_of next (named_world o facts name w)
+pub named_stage : (o : ObjectId) (facts : FunctionFacts) (name : TextId) (next : Program) (w : World) → stage_of (name_function o facts name next) w ≡ stage_of next (named_world o facts name w)
 unfolding named_world
 named_stage o facts name next w =
     let v : World = named_defined o (codes "name") (readable (value.Text name)) w in stage-if facts.constructor (make_constructor o next) next v (constructor_world o v) (constructor_stage o next v)
 
-created_stage : (f : FunctionNo) (facts : FunctionFacts) (next : ObjectId → Program) (w : World) → stage_of (create_function f facts next) w ≡ stage_of (next (new_object w.lists)) (created_world f facts w)
+pub created_stage : (f : FunctionNo) (facts : FunctionFacts) (next : ObjectId → Program) (w : World) → stage_of (create_function f facts next) w ≡ stage_of (next (new_object w.lists)) (created_world f facts w)
 unfolding created_world
 created_stage f facts next w = refl
 
@@ -103,38 +102,27 @@ unfolding function_world
 made_later f facts name w =
     later_then w (created_world f facts w) (function_world f facts name w) (created-later f facts w) (named_world-later (new_object w.lists) facts name (created_world f facts w))
 
--- ---- the new object is there
-
-function-there : (f : FunctionNo) (facts : FunctionFacts) (w : World) → IsObject (changed (making_function f facts) w).lists (new_object w.lists)
-unfolding changed made
-function-there f facts w =
-    let x = new_object_of (function_kind f facts) (proto_of_class class.Function) in
-    let n = length-append w.lists.objects (x ∷ []) in
-    let same = noted-objects (with_objects w (w.lists.objects ++ x ∷ [])) (proto_of_class class.Function) in omega arith
-
-prototype-there : (w : World) → IsObject (changed making_prototype w).lists (new_object w.lists)
-unfolding changed made
-prototype-there w =
-    let x = new_object_of kind_of.Ordinary (proto_of_class class.Object) in
-    let n = length-append w.lists.objects (x ∷ []) in
-    let same = noted-objects (with_objects w (w.lists.objects ++ x ∷ [])) (proto_of_class class.Object) in omega arith
+-- ---- the new object is there, and no Array
 
 object-stays : (w v : World) → IsLater w v → (o : ObjectId) → IsObject w.lists o → IsObject v.lists o
 object-stays w v l o h = object-later w.lists v.lists l.lists o h
 
-created-there : (f : FunctionNo) (facts : FunctionFacts) (w : World) → IsObject (created_world f facts w).lists (new_object w.lists)
+function-other : (f : FunctionNo) (facts : FunctionFacts) (w : World) → IsNoArray (changed (making_function f facts) w).lists (new_object w.lists)
+function-other f facts w = made-no_array w (function_kind f facts) OfFunction (proto_of_class class.Function) refl
+
+created-other : (f : FunctionNo) (facts : FunctionFacts) (w : World) → IsNoArray (created_world f facts w).lists (new_object w.lists)
 unfolding created_world
-created-there f facts w =
+created-other f facts w =
     let o : ObjectId = new_object w.lists in
     let a : World = changed (making_function f facts) w in
-    object-stays a (created_world f facts w) (named-later o (codes "length") (readable (parameter_count facts)) a) o (function-there f facts w)
+    no_array-later a.lists (created_world f facts w).lists (named-later o (codes "length") (readable (parameter_count facts)) a).lists o (function-other f facts w)
 
 pub made_there : (f : FunctionNo) (facts : FunctionFacts) (name : TextId) (w : World) → IsObject (function_world f facts name w).lists (new_object w.lists)
 unfolding function_world
 made_there f facts name w =
     let o : ObjectId = new_object w.lists in
     let a : World = created_world f facts w in
-    object-stays a (function_world f facts name w) (named_world-later o facts name a) o (created-there f facts w)
+    object-stays a (function_world f facts name w) (named_world-later o facts name a) o (created-other f facts w).there
 
 -- ---- sound worlds
 
@@ -145,11 +133,13 @@ count-known : (l : Lists) (facts : FunctionFacts) → IsKnown l (parameter_count
 unfolding parameter_count
 count-known l facts = whole-of (min facts.parameters most_whole) (omega arith)
 
-named-sound : (o : ObjectId) (name : List ℕ) (d : Descriptor) (w : World) → IsSound w → IsObject w.lists o → IsShort name → natural_of 10 name ≡ None → IsKnownDescriptor w.lists d → IsSound (named_defined o name d w)
-named-sound o name d w s there short plain known =
+named-sound : (o : ObjectId) (name : List ℕ) (d : Descriptor) (w : World) → IsSound w → IsNoArray w.lists o → IsShort name → natural_of 10 name ≡ None → IsKnownDescriptor w.lists d → IsSound (named_defined o name d w)
+named-sound o name d w s plain short no_index known =
     let a : World = changed (Interning name) w in
+    let k = Name (number_of w.lists name) in
     let g = grows-changed (Interning name) w in
-    sound-defining a o (Name (number_of w.lists name)) d (sound-interning w name s short) (object-later w.lists a.lists g o there) (name-known w name plain) (descriptor-later w.lists a.lists g d known)
+    let here : IsNoArray a.lists o = no_array-later w.lists a.lists g o plain in
+    sound-defining a o k d (sound-interning w name s short) here.there (name-known w name no_index) (descriptor-later w.lists a.lists g d known) (no_array-leaves a.lists o k d.value here.other)
 
 flags-of : (found : Option FunctionFacts) (facts : FunctionFacts) → found ≡ Some facts → HasFlags found facts.constructor facts.strict
 flags-of found facts e = subst (λ (x : Option FunctionFacts). HasFlags x facts.constructor facts.strict) (sym e) (refl, refl)
@@ -158,33 +148,33 @@ created-sound : (f : FunctionNo) (facts : FunctionFacts) (w : World) → IsSound
 unfolding created_world
 created-sound f facts w s found top =
     let a : World = changed (making_function f facts) w in
-    let sa : IsSound a = sound-making w (function_kind f facts) OfFunction (proto_of_class class.Function) s tt (flags-of _ facts found, top) (s.intact.start (intrinsic.Prototype class.Function)).0 in
-    named-sound (new_object w.lists) (codes "length") (readable (parameter_count facts)) a sa (function-there f facts w) (omega arith) refl (known-stored a.lists (parameter_count facts) (count-known a.lists facts)).0
+    let sa : IsSound a = sound-making w (function_kind f facts) OfFunction (proto_of_class class.Function) s tt (flags-of _ facts found, top) (s.intact.start (intrinsic.Prototype class.Function)).0 refl in
+    named-sound (new_object w.lists) (codes "length") (readable (parameter_count facts)) a sa (function-other f facts w) (omega arith) refl (known-stored a.lists (parameter_count facts) (count-known a.lists facts)).0
 
-constructor-sound : (o : ObjectId) (w : World) → IsSound w → IsObject w.lists o → IsSound (constructor_world o w)
+constructor-sound : (o : ObjectId) (w : World) → IsSound w → IsNoArray w.lists o → IsSound (constructor_world o w)
 unfolding constructor_world prototype_made
-constructor-sound o w s there =
+constructor-sound o w s plain =
     let p : ObjectId = new_object w.lists in
     let a : World = changed making_prototype w in
-    let sa : IsSound a = sound-making w kind_of.Ordinary OfPlain (proto_of_class class.Object) s tt tt (s.intact.start (intrinsic.Prototype class.Object)).0 in
-    let oa : IsObject a.lists o = object-stays w a (later-changed making_prototype w) o there in
-    let pa : IsObject a.lists p = prototype-there w in
+    let sa : IsSound a = sound-making w kind_of.Ordinary OfPlain (proto_of_class class.Object) s tt tt (s.intact.start (intrinsic.Prototype class.Object)).0 refl in
+    let oa : IsNoArray a.lists o = no_array-later w.lists a.lists (later-changed making_prototype w).lists o plain in
+    let pa : IsNoArray a.lists p = made-no_array w kind_of.Ordinary OfPlain (proto_of_class class.Object) refl in
     let b : World = named_defined p (codes "constructor") (hidden (value.Object o)) a in
     let l : IsLater a b = named-later p (codes "constructor") (hidden (value.Object o)) a in
-    let sb : IsSound b = named-sound p (codes "constructor") (hidden (value.Object o)) a sa pa (omega arith) refl (known-stored a.lists (value.Object o) oa).2 in
-    named-sound o (codes "prototype") (kept (value.Object p)) b sb (object-stays a b l o oa) (omega arith) refl (known-stored b.lists (value.Object p) (object-stays a b l p pa)).1
+    let sb : IsSound b = named-sound p (codes "constructor") (hidden (value.Object o)) a sa pa (omega arith) refl (known-stored a.lists (value.Object o) oa.there).2 in
+    named-sound o (codes "prototype") (kept (value.Object p)) b sb (no_array-later a.lists b.lists l.lists o oa) (omega arith) refl (known-stored b.lists (value.Object p) (object-stays a b l p pa.there)).1
 
 sound-if : (b : Bool) (v u : World) → IsSound v → IsSound u → IsSound (cond b v u)
 sound-if true v u h k = h
 sound-if false v u h k = k
 
-named_world-sound : (o : ObjectId) (facts : FunctionFacts) (name : TextId) (w : World) → IsSound w → IsObject w.lists o → IsText w.lists name → IsSound (named_world o facts name w)
+named_world-sound : (o : ObjectId) (facts : FunctionFacts) (name : TextId) (w : World) → IsSound w → IsNoArray w.lists o → IsText w.lists name → IsSound (named_world o facts name w)
 unfolding named_world
-named_world-sound o facts name w s there known =
+named_world-sound o facts name w s plain known =
     let d : Descriptor = readable (value.Text name) in
     let v : World = named_defined o (codes "name") d w in
-    let sv : IsSound v = named-sound o (codes "name") d w s there (omega arith) refl (known-stored w.lists (value.Text name) known).0 in
-    sound-if facts.constructor (constructor_world o v) v (constructor-sound o v sv (object-stays w v (named-later o (codes "name") d w) o there)) sv
+    let sv : IsSound v = named-sound o (codes "name") d w s plain (omega arith) refl (known-stored w.lists (value.Text name) known).0 in
+    sound-if facts.constructor (constructor_world o v) v (constructor-sound o v sv (no_array-later w.lists v.lists (named-later o (codes "name") d w).lists o plain)) sv
 
 pub made_sound : (f : FunctionNo) (facts : FunctionFacts) (name : TextId) (w : World) → IsSound w → IsText w.lists name → slice_get w.script.functions f.0 ≡ Some facts → top_names w.script ≤ length w.lists.cells →
     IsSound (function_world f facts name w)
@@ -192,7 +182,7 @@ unfolding function_world
 made_sound f facts name w s known found top =
     let a : World = created_world f facts w in
     let g = (created-later f facts w).lists in
-    named_world-sound (new_object w.lists) facts name a (created-sound f facts w s found top) (created-there f facts w) (text-later w.lists a.lists g name known)
+    named_world-sound (new_object w.lists) facts name a (created-sound f facts w s found top) (created-other f facts w) (text-later w.lists a.lists g name known)
 
 -- ---- the program with what goes on behind it
 
@@ -227,8 +217,27 @@ made_kept P f facts name next w s known found top onward =
     let v : World = function_world f facts name w in
     kept-whole P f facts name next w (onward (new_object w.lists) v (made_sound f facts name w s known found top) (made_later f facts name w) (made_there f facts name w))
 
+-- ---- the two parts by themselves
+
+pub create_kept : (P : Lists → Completion → Type 0) (f : FunctionNo) (facts : FunctionFacts) (next : ObjectId → Program) (w : World) →
+    IsSound w → slice_get w.script.functions f.0 ≡ Some facts → top_names w.script ≤ length w.lists.cells →
+    ((o : ObjectId) (v : World) → IsSound v → IsLater w v → IsNoArray v.lists o → IsKept P (next o) v) → IsKept P (create_function f facts next) w
+create_kept P f facts next w s found top onward =
+    created-kept P f facts next w (onward (new_object w.lists) (created_world f facts w) (created-sound f facts w s found top) (created-later f facts w) (created-other f facts w))
+
+pub name_kept : (P : Lists → Completion → Type 0) (o : ObjectId) (facts : FunctionFacts) (name : TextId) (next : Program) (w : World) →
+    IsSound w → IsNoArray w.lists o → IsText w.lists name → ((v : World) → IsSound v → IsLater w v → IsKept P next v) → IsKept P (name_function o facts name next) w
+name_kept P o facts name next w s plain known onward =
+    named-kept P o facts name next w (onward (named_world o facts name w) (named_world-sound o facts name w s plain known) (named_world-later o facts name w))
+
 constructor-within : (r b : ℕ) (o : ObjectId) (next : Program) → IsWithin r b next → IsWithin r b (make_constructor o next)
 constructor-within r b o next h = λ l m n x y. h
+
+pub create_within : (r b : ℕ) (f : FunctionNo) (facts : FunctionFacts) (next : ObjectId → Program) → ((o : ObjectId) → IsWithin r b (next o)) → IsWithin r b (create_function f facts next)
+create_within r b f facts next h = λ l m n. h (new_object l)
+
+pub name_within : (r b : ℕ) (o : ObjectId) (facts : FunctionFacts) (name : TextId) (next : Program) → IsWithin r b next → IsWithin r b (name_function o facts name next)
+name_within r b o facts name next h = λ l m. within-cond r b facts.constructor (make_constructor o next) next (constructor-within r b o next h) h
 
 -- it takes no turn and asks for nothing
 pub made_within : (r b : ℕ) (f : FunctionNo) (facts : FunctionFacts) (name : TextId) (next : ObjectId → Program) → ((o : ObjectId) → IsWithin r b (next o)) → IsWithin r b (function_made f facts name next)
@@ -245,5 +254,5 @@ pub named_there : (heap : HeapView) (f : FunctionNo) (facts : FunctionFacts) (na
     o ≡ new_object w.lists → StandsFor heap (named_world o facts name (created_world f facts w)) → StandsFor heap v → IsObject v.lists o
 named_there heap f facts name o w v is one two =
     let a : World = created_world f facts w in
-    let there : IsObject a.lists o = subst (λ p. IsObject a.lists p) (sym is) (created-there f facts w) in
+    let there : IsObject a.lists o = subst (λ p. IsObject a.lists p) (sym is) (created-other f facts w).there in
     there-too heap (named_world o facts name a) v o one two (object-stays a (named_world o facts name a) (named_world-later o facts name a) o there)

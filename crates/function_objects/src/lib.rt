@@ -8,5 +8,5 @@ mod receivers;
 
 pub use constructing::{new_constructed, note_construction, prototype_of, prototype_request};
 pub use laws::links_suffice;
-pub use making::function_made;
+pub use making::{create_function, function_made, name_function};
 pub use receivers::bind_this;

@@ -87,9 +87,11 @@ fn define_named<L: Ledger>(
 
 // ---- one function
 
-/// OrdinaryFunctionCreate (10.2.3), whose last step is SetFunctionLength (10.2.10).
+/// A new function of the script with its `length` (ECMA-262, OrdinaryFunctionCreate, 10.2.3, 10.2.10). It has no name yet, and no `prototype`.
+///
+/// It takes no turn. NoMemory is the one error, and what was made before it stays.
 #[tactic(auto, using(object_heap::specs::Stands::goes_none, object_heap::specs::Stands::goes_then, object_heap::proofs::Retaining::retains_none, object_heap::proofs::Retaining::retains_then), unfolding(crate::specs::Making::created_world))]
-fn create_function<L: Ledger>(
+pub fn create_function<L: Ledger>(
     heap: &mut Heap,
     function: FunctionNo,
     facts: FunctionFacts,
@@ -147,9 +149,11 @@ fn make_constructor<L: Ledger>(
     Ok(())
 }
 
-/// SetFunctionName (10.2.9), and then MakeConstructor where the function constructs.
+/// A function that was just made gets its name (ECMA-262, SetFunctionName, 10.2.9), and, where it constructs, its `prototype` (MakeConstructor, 10.2.5).
+///
+/// It takes no turn. NoMemory is the one error, and what was made before it stays.
 #[tactic(auto, using(object_heap::specs::Stands::goes_none, object_heap::specs::Stands::goes_then, object_heap::proofs::Retaining::retains_none, object_heap::proofs::Retaining::retains_then), unfolding(crate::specs::Making::named_world))]
-fn name_function<L: Ledger>(
+pub fn name_function<L: Ledger>(
     heap: &mut Heap,
     object: ObjectId,
     facts: FunctionFacts,

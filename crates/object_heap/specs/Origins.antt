@@ -1,5 +1,5 @@
 -- The origins of a heap: for each number what makes its objects, what that is in a script, and how many fields its objects begin with.
-use Rattle.std.specs.Prelude.{ℕ, suc, ◌+◌, min, max, Bool, true, false, ◌&&◌, if◌then◌else◌}
+use Rattle.std.specs.Prelude.{ℕ, suc, ◌+◌, min, max, if◌then◌else◌}
 use Rattle.std.specs.Prelude.{◌≡◌, Some, List, [], ◌∷◌, slice_get, slice_index_or}
 use Rattle.map_store.specs.declared.OriginId.{OriginId}
 use Rattle.es_source.specs.Places.{same_place}

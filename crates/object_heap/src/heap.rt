@@ -11,7 +11,7 @@ use crate::objects::Objects;
 use crate::origins::Origins;
 use crate::starting::{start_symbols, start_texts};
 use es_model::Turns;
-use property_keys::{NoMemory, Symbols, Texts};
+use property_keys::{NoMemory, RunHashing, Symbols, Texts};
 use std::alloc::Global;
 use std::marker::Model;
 
@@ -44,11 +44,18 @@ impl Model for Heap {
 }
 
 impl Heap {
-    /// The start objects with their texts and Symbols, and so many turns.
+    /// The start objects with their texts and Symbols, and so many turns. It is hashed as in a run of an empty file.
     pub fn new(alloc: Global, budget: u64) -> Result<Heap, NoMemory>
         ensures { IfOk result (λ heap. (script : Tree) → StandsFor heap (start_world script budget)) }
     {
-        let texts = start_texts(alloc)?;
+        Heap::with_hashing(alloc, budget, RunHashing::of(&[]))
+    }
+
+    /// The start objects with their texts and Symbols, and so many turns. What the heap comes to does not hang on the hashing, only the time that it takes.
+    pub fn with_hashing(alloc: Global, budget: u64, hashing: RunHashing) -> Result<Heap, NoMemory>
+        ensures { IfOk result (λ heap. (script : Tree) → StandsFor heap (start_world script budget)) }
+    {
+        let texts = start_texts(alloc, hashing)?;
         let symbols = start_symbols(alloc)?;
         let objects = Objects::at_start(alloc)?;
         Ok(Heap {
@@ -57,7 +64,7 @@ impl Heap {
             symbols,
             turns: Turns::new(budget),
             cells: Cells::new(alloc),
-            origins: Origins::new(alloc),
+            origins: Origins::new(alloc, hashing),
             objects,
         })
     }

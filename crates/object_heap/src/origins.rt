@@ -3,16 +3,17 @@
 ghost use Rattle.std.specs.Prelude.{◌≡◌, [], IfOk, OnErr, OnOk};
 ghost use Rattle.object_heap.specs.Origins.{constructor_places, literal_places, origin_place, with_origin};
 
+use indexmap::IndexSet;
 use map_store::OriginId;
-use property_keys::NoMemory;
+use property_keys::{NoMemory, RunHashing};
 use slack_tracking::OriginKind;
 use std::alloc::Global;
 use std::marker::Model;
 
-/// The kinds of origins that have a number, in the order of their numbers.
+/// The kinds of origins that have a number, in the order of their numbers. A look-up does not grow with how many there are.
 #[derive(Drop)]
 pub(crate) struct Origins {
-    kinds: Vec<OriginKind>,
+    kinds: IndexSet<OriginKind, RunHashing>,
 }
 
 impl Model for Origins {
@@ -21,15 +22,15 @@ impl Model for Origins {
 
     ghost Value = { List OriginKind };
 
-    ghost view = { λ o. o.kinds.items };
+    ghost view = { λ o. o.kinds.keys };
 }
 
 impl Origins {
-    pub(crate) fn new(alloc: Global) -> Origins
+    pub(crate) fn new(alloc: Global, hashing: RunHashing) -> Origins
         ensures { result ≡ [] }
     {
         Origins {
-            kinds: Vec::new(alloc),
+            kinds: IndexSet::with_hasher(alloc, hashing),
         }
     }
 
@@ -39,29 +40,28 @@ impl Origins {
         ensures ok { OnOk result (self.new ≡ with_origin self.old kind) }
         ensures err { OnErr result (self.new ≡ self.old) }
     {
-        let place = place_of(&self.kinds, kind);
+        let place = self.place_of(kind);
         if place >= u32::MAX as usize {
             return Err(NoMemory);
         }
         if place < self.kinds.len() {
             return Ok(OriginId(place as u32));
         }
-        match self.kinds.push(kind) {
-            Ok(()) => Ok(OriginId(place as u32)),
+        match self.kinds.insert_full(kind) {
+            Ok(_) => Ok(OriginId(place as u32)),
             Err(_) => Err(NoMemory),
         }
     }
-}
 
-/// The place of a kind, or how many there are where it is not there.
-fn place_of(kinds: &[OriginKind], kind: OriginKind) -> usize
-    ensures { result ≡ origin_place kinds.now kind }
-{
-    let mut place = 0;
-    while place < kinds.len() && !kinds[place].is_same(kind) {
-        place += 1;
+    /// The place of a kind, or how many there are where it is not there.
+    fn place_of(&self, kind: OriginKind) -> usize
+        ensures { result ≡ origin_place self.now kind }
+    {
+        match self.kinds.get_index_of(&kind) {
+            Some(place) => place,
+            None => self.kinds.len(),
+        }
     }
-    place
 }
 
 /// How many fields lie in an object of a literal that has so many property definitions: at least 4, at most 32.

@@ -5,14 +5,14 @@ ghost use Rattle.es_model.specs.declared.start_texts.StartText.TheVariants as te
 ghost use Rattle.es_model.specs.StartTexts.{start_symbols, start_texts, text_of};
 
 use es_model::{StartText, WellKnown, start_text};
-use property_keys::{KeyFault, NoMemory, Symbols, TextId, Texts, Units};
+use property_keys::{KeyFault, NoMemory, RunHashing, Symbols, TextId, Texts, Units};
 use std::alloc::Global;
 
 /// The texts that are there at the start.
-pub(crate) fn start_texts(alloc: Global) -> Result<Texts, NoMemory>
+pub(crate) fn start_texts(alloc: Global, hashing: RunHashing) -> Result<Texts, NoMemory>
     ensures { IfOk result (λ texts. texts ≡ start_texts) }
 {
-    let mut texts = Texts::new(alloc)?;
+    let mut texts = Texts::with_hashing(alloc, hashing)?;
     let mut n = 0;
     while let Some(text) = start_text(n) {
         let units = units_of(alloc, text.text().as_bytes())?;

@@ -1,10 +1,11 @@
 -- The program of every request whose object has the ordinary methods keeps worlds sound.
-use Rattle.std.proofs.Common.{◌≡◌, true, false, refl, sym, true≢false}
+use Rattle.std.proofs.Common.{◌≡◌, ◌&&◌, Bool, true, false, refl, sym, true≢false}
+use Rattle.std.specs.Prelude.{not}
 use Rattle.es_model.specs.declared.kinds.ObjectKind.{ObjectKind}
 use Rattle.es_model.specs.declared.kinds.ObjectKind.TheVariants as kind_of
 use Rattle.es_model.specs.declared.requests.Request.{Request}
 use Rattle.es_model.specs.declared.requests.Request.TheVariants.{GetOwn, Define, Has, Read, Write, Delete, Keys, Proto, SetProto, Extensible, Prevent, Call, Construct, Work, Print}
-use Rattle.es_model.specs.Objects.{is_proxy}
+use Rattle.es_model.specs.Objects.{is_array, is_proxy}
 use Rattle.es_model.specs.World.{World, kind}
 use Rattle.es_model.specs.Program.{Of}
 use Rattle.es_model.specs.Fits.{IsKnownRequest}
@@ -28,9 +29,14 @@ no-proxy (kind_of.Arguments cells) e = refl
 no-proxy kind_of.Error e = refl
 no-proxy (kind_of.Proxy target handler callable constructor) e = absurd (true≢false (sym e))
 
+no-array : (ordinary array : Bool) → (ordinary && not array) ≡ true → array ≡ false
+no-array ordinary false e = refl
+no-array true true e = absurd (true≢false (sym e))
+no-array false true e = absurd (true≢false (sym e))
+
 pub ordinary_kept : (q : Request) (w : World) → IsSound w → IsKnownRequest w.lists q → IsForOrdinary w.lists q → KeepsFor (Of q) (ordinary_program q) w
 ordinary_kept (GetOwn o k) w s h p = get_own-kept w o k s h.0
-ordinary_kept (Define o k d) w s h p = define-kept w o k d s h.0 h.1 h.2
+ordinary_kept (Define o k d) w s h p = define-kept w o k d s h.0 h.1 h.2 (no-array (is_ordinary (kind w.lists o)) (is_array (kind w.lists o)) p)
 ordinary_kept (Has o k) w s h p = has-kept w o k s h.0 h.1
 ordinary_kept (Read o k r site) w s h p = get-kept w o site k r s h.0 h.1 h.2
 ordinary_kept (Write o k x r site) w s h p = set-kept w o k x r site s h.0 h.1 h.2 h.3

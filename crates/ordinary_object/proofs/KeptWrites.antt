@@ -1,5 +1,5 @@
 -- The ordinary methods that change keep worlds sound.
-use Rattle.std.proofs.Common.{Option, Some, None, [], ◌∷◌, refl}
+use Rattle.std.proofs.Common.{◌≡◌, false, Option, Some, None, [], ◌∷◌, refl}
 use Rattle.property_keys.specs.declared.identifiers.ObjectId.{ObjectId}
 use Rattle.property_keys.specs.declared.keys.PropKey.{PropKey}
 use Rattle.property_keys.specs.declared.values.Value.{Value}
@@ -10,7 +10,8 @@ use Rattle.descriptors.specs.declared.property.Complete.TheVariants.{Stored, Acc
 use Rattle.es_tree.specs.declared.numbers.SiteId.{SiteId}
 use Rattle.es_model.specs.Completions.{Completion}
 use Rattle.es_model.specs.declared.requests.Request.TheVariants.{Write, Define, Delete, Prevent, GetOwn, Call}
-use Rattle.es_model.specs.World.{Lists, World, own, proto}
+use Rattle.es_model.specs.Objects.{is_array}
+use Rattle.es_model.specs.World.{Lists, World, kind, own, proto}
 use Rattle.es_model.specs.Changes.{charged}
 use Rattle.es_model.specs.Program.{Of}
 use Rattle.es_model.specs.Known.{IsObject, IfThere, IsKnown, IsKnownKey, IsKnownComplete, IsKnownDescriptor}
@@ -20,13 +21,14 @@ use Rattle.es_model.specs.Kept.{FitsTask, IsKept}
 use Rattle.es_model.specs.programs.Abrupt.{value_in, property_in}
 use Rattle.ordinary_object.specs.Ordinary.{ordinary_define_own_property, ordinary_delete, ordinary_prevent_extensions, ordinary_set, ordinary_set_with_own_descriptor, set_receiver, set_had, set_existing, value_alone, with_three_true}
 use Rattle.es_model.proofs.Abrupt.{answer-kept}
+use Rattle.es_model.proofs.ArrayLengths.{no_array-leaves}
 use Rattle.es_model.proofs.KnownLater.{known-later, key-later, object-later}
 use Rattle.es_model.proofs.SoundReads.{own-known, proto-known, sound-charged}
 use Rattle.es_model.proofs.SoundChanges.{sound-defining, sound-deleting, sound-preventing}
 use Rattle.es_model.proofs.SoundErrors.{kept-if}
 
-pub define-kept : (w : World) (o : ObjectId) (k : PropKey) (d : Descriptor) → IsSound w → IsObject w.lists o → IsKnownKey w.lists k → IsKnownDescriptor w.lists d → IsKept (FitsTask (Of (Define o k d))) (ordinary_define_own_property o k d) w
-define-kept w o k d s there key h = (sound-defining w o k d s there key h, (tt, tt))
+pub define-kept : (w : World) (o : ObjectId) (k : PropKey) (d : Descriptor) → IsSound w → IsObject w.lists o → IsKnownKey w.lists k → IsKnownDescriptor w.lists d → is_array (kind w.lists o) ≡ false → IsKept (FitsTask (Of (Define o k d))) (ordinary_define_own_property o k d) w
+define-kept w o k d s there key h other = (sound-defining w o k d s there key h (no_array-leaves w.lists o k d.value other), (tt, tt))
 
 pub delete-kept : (w : World) (o : ObjectId) (k : PropKey) → IsSound w → IsKept (FitsTask (Of (Delete o k))) (ordinary_delete o k) w
 delete-kept w o k s = (sound-deleting w o k s, (tt, tt))

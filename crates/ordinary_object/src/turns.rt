@@ -30,8 +30,8 @@ use object_heap::Heap;
 use property_keys::{Ledger, Steps, Value};
 use std::alloc::Global;
 
-/// The first turn of a request whose object has the ordinary methods. A call, a construction, an abstract operation and a line of print are for other crates, and
-/// throw undefined here.
+/// The first turn of a request whose object has the ordinary method. A call, a construction, an abstract operation and a line of print are for other crates, and
+/// throw undefined here. A definition on an Array object is none of the ordinary methods (10.4.2.1), and soundness is not said of it.
 ///
 /// Halted comes exactly where a charge does not fit: one turn for each step on to a prototype's own method, and one for each round of [[SetPrototypeOf]].
 #[tactic(auto, using(object_heap::proofs::Turns::turn_of, object_heap::proofs::Turns::sound_of, object_heap::proofs::Turns::named_of, crate::proofs::Kept::ordinary_kept))]

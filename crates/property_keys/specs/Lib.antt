@@ -1,6 +1,7 @@
 pub mod Blanks
 pub mod Counts
 pub mod Decimals
+pub mod Hashing
 pub mod Keys
 pub mod Laws
 pub mod Limits

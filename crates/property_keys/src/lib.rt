@@ -4,6 +4,7 @@
 mod blanks;
 mod decimals;
 mod faults;
+mod hashing;
 mod identifiers;
 mod indices;
 mod keys;
@@ -16,6 +17,7 @@ mod units;
 mod values;
 
 pub use faults::{KeyFault, NoMemory, NotWhole};
+pub use hashing::RunHashing;
 pub use identifiers::{ObjectId, SymbolId, TextId};
 pub use keys::{Attributes, PropKey};
 pub use steps::{Counting, Ledger, Steps};

@@ -12,7 +12,7 @@ ghost use Rattle.property_keys.specs.Wholes.{IsWhole};
 use crate::decimals::decimal_units;
 use crate::indices::array_index;
 use crate::numbers::number;
-use crate::{KeyFault, NoMemory, NotWhole, PropKey, TextId, Units};
+use crate::{KeyFault, NoMemory, NotWhole, PropKey, RunHashing, TextId, Units};
 use indexmap::IndexSet;
 use std::alloc::Global;
 use std::marker::Model;
@@ -21,7 +21,7 @@ use std::marker::Model;
 #[derive(Drop)]
 pub struct Texts {
     alloc: Global,
-    table: IndexSet<Units>,
+    table: IndexSet<Units, RunHashing>,
 }
 
 impl Model for Texts {
@@ -35,13 +35,20 @@ impl Model for Texts {
 }
 
 impl Texts {
-    /// A table without texts.
+    /// A table without texts, hashed as in a run of an empty file.
     pub fn new(alloc: Global) -> Result<Texts, NoMemory>
+        ensures { IfOk result (λ t. t ≡ []) }
+    {
+        Texts::with_hashing(alloc, RunHashing::of(&[]))
+    }
+
+    /// A table without texts. What the table comes to does not hang on the hashing, only the time that it takes.
+    pub fn with_hashing(alloc: Global, hashing: RunHashing) -> Result<Texts, NoMemory>
         ensures { IfOk result (λ t. t ≡ []) }
     {
         Ok(Texts {
             alloc,
-            table: IndexSet::new(alloc),
+            table: IndexSet::with_hasher(alloc, hashing),
         })
     }
 
@@ -56,12 +63,11 @@ impl Texts {
     pub fn intern(&mut self, units: Units) -> Result<TextId, NoMemory>
         ensures { Interns self.old self.new units result }
     {
-        if let Some(id) = self.find(&units) {
+        if self.table.len() >= u32::MAX as usize {
+            let Some(id) = self.find(&units) else {
+                return Err(NoMemory);
+            };
             return Ok(id);
-        }
-        let count = self.table.len();
-        if count >= u32::MAX as usize {
-            return Err(NoMemory);
         }
         let Ok((index, _)) = self.table.insert_full(units) else {
             return Err(NoMemory);

@@ -21,7 +21,7 @@ use command_words::{Order, Source, WordsStop, read_order};
 use es_source::{Place, ReadStop, SourceFault};
 use es_tree::Checked;
 use hc_outside::{Fault, Files, Sink, Text, text};
-use property_keys::{Ledger, NoMemory, Steps};
+use property_keys::{Ledger, NoMemory, RunHashing, Steps};
 use script_generator::generated;
 use script_syntax::MOST_BYTES;
 use std::alloc::Global;
@@ -191,7 +191,14 @@ fn run_to_end<O: Sink, L: Ledger>(
     ensures { SettlesRun (order_in order.entry) bytes.now script.now (change (sink_view (O.held out.old) (O.writes out.old) (O.flushes out.old) (O.faults out.old))
         (sink_view (O.held out.new) (O.writes out.new) (O.flushes out.new) (O.faults out.new))) result }
 {
-    match run(alloc, script, order.budget, out, steps) {
+    match run(
+        alloc,
+        script,
+        order.budget,
+        RunHashing::of(bytes),
+        out,
+        steps,
+    ) {
         Ok(ran) => close_run(alloc, ran, order.source, bytes, out),
         Err(HostStop::WriteFault) => Err(HostStop::WriteFault),
         Err(HostStop::NoMemory) => Err(flush_without_memory(out)),

@@ -14,7 +14,7 @@ use es_model::{Completion, Stop, Values};
 use es_tree::Checked;
 use hc_outside::{Fault, Sink};
 use object_heap::Heap;
-use property_keys::{Ledger, NoMemory, Steps, Value};
+use property_keys::{Ledger, NoMemory, RunHashing, Steps, Value};
 use std::alloc::Global;
 
 /// How a run ends.
@@ -117,17 +117,20 @@ fn print_lines<O: Sink, L: Ledger>(
 ///
 /// `Ok` comes only where the count of faults of `out` did not change, with the ending, the last world and all the bytes of the run; at a halt the turns that
 /// are left are not compared. `WriteFault` comes only where the count rose. After it and after `NoMemory` a front of the bytes was written.
+///
+/// What the run comes to does not hang on the hashing, only the time that it takes: let it be that of the bytes of the script's file.
 pub fn run<O: Sink, L: Ledger>(
     alloc: Global,
     script: &Checked,
     budget: u64,
+    hashing: RunHashing,
     out: &mut O,
     steps: &mut Steps<L>,
 ) -> Result<Ran, HostStop>
     ensures { RunsTo script.now budget (change (sink_view (O.held out.old) (O.writes out.old) (O.flushes out.old) (O.faults out.old))
         (sink_view (O.held out.new) (O.writes out.new) (O.flushes out.new) (O.faults out.new))) result }
 {
-    match Heap::new(alloc, budget) {
+    match Heap::with_hashing(alloc, budget, hashing) {
         Ok(heap) => {
             let dispatcher = Dispatcher::of_script(alloc, &heap, script);
             print_lines(alloc, heap, script, dispatcher, out, steps)

@@ -10,7 +10,7 @@ use es_source::Place;
 pub use origins::Origins;
 
 /// What makes the objects of an origin.
-#[derive(Clone, Copy, Debug, PartialEq, Eq)]
+#[derive(Clone, Copy, Debug, PartialEq, Eq, Hash)]
 pub enum OriginKind {
     /// A built-in function or an operation that makes an ordinary object.
     Plain,

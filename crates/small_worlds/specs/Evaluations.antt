@@ -368,22 +368,22 @@ put_z = with_leaves (member 4 (codes "k") ∷ puts assign_operator.Plain (into 8
 abbrev pub NullIsNotPut : Type 0
 NullIsNotPut = fails (comes usual put_z 9) ≡ (type_error (codes "not an object"), 16, [])
 
--- o[n] = -n: the key is converted before the right side
+-- o[n] = -o: the key is converted before the right side
 abbrev pub put_element : List Node
-put_element = with_leaves (element 0 1 ∷ one unary_operator.Minus 1 ∷ puts assign_operator.Plain (into 8) 9 ∷ [])
+put_element = with_leaves (element 0 1 ∷ one unary_operator.Minus 0 ∷ puts assign_operator.Plain (into 8) 9 ∷ [])
 
 abbrev pub KeyIsConvertedFirst : Type 0
 KeyIsConvertedFirst =
-    comes usual put_element 10 ≡ Ended (gives (value.Whole (negsuc 4))) (scene put_element 14 cells (13 ∷ 5 ∷ 12 ∷ 5 ∷ 3 ∷ 203 ∷ 5 ∷ [])) 7
+    comes usual put_element 10 ≡ Ended (gives (value.Whole (negsuc 2))) (scene put_element 14 cells (13 ∷ 5 ∷ 12 ∷ 203 ∷ 3 ∷ 203 ∷ 3 ∷ [])) 7
 
--- o[n] += n: the key, the read, the right side, the conversions, the write
+-- o[n] += o: the key, the read, the right side, its conversion, the write
 abbrev pub add_element : List Node
-add_element = with_leaves (element 0 1 ∷ puts assign_operator.Add (into 8) 1 ∷ [])
+add_element = with_leaves (element 0 1 ∷ puts assign_operator.Add (into 8) 0 ∷ [])
 
 abbrev pub CompoundInOrder : Type 0
 CompoundInOrder =
     comes usual add_element 9
-    ≡ Ended (gives (whole 12)) (scene add_element 15 cells (13 ∷ 5 ∷ 2 ∷ 203 ∷ 10 ∷ 7 ∷ 10 ∷ 5 ∷ 12 ∷ 7 ∷ 12 ∷ 5 ∷ 3 ∷ 203 ∷ 12 ∷ [])) 10
+    ≡ Ended (gives (whole 10)) (scene add_element 15 cells (13 ∷ 5 ∷ 2 ∷ 203 ∷ 10 ∷ 203 ∷ 3 ∷ 203 ∷ 10 ∷ [])) 7
 
 -- the length and t[1] are in the text itself, and t.toLocaleString is one link up
 abbrev pub length_key : PropKey
@@ -445,59 +445,89 @@ LengthIsNotDeleted =
     run (served usual 5) (delete_of (context (script_of leaves) (body_of false) in_force) (word 1) length_key) 0 (scene leaves 20 cells [])
     ≡ Ended (gives (value.Bool false)) (scene leaves 20 cells []) 0
 
--- ---- operators
+-- ---- operators. A number, a text or another primitive value that needs no conversion asks nothing
 
 abbrev pub a_sum : List Node
 a_sum = with_leaves (two binary_operator.Add 2 3 ∷ [])
 
 abbrev pub NumbersAreAdded : Type 0
-NumbersAreAdded = comes usual a_sum 8 ≡ Ended (gives (whole 3)) (scene a_sum 17 cells (10 ∷ 1 ∷ 10 ∷ 2 ∷ 12 ∷ 1 ∷ 12 ∷ 2 ∷ [])) 6
+NumbersAreAdded = comes usual a_sum 8 ≡ Ended (gives (whole 3)) (scene a_sum 17 cells []) 2
+
+-- o + n
+abbrev pub a_mixed_sum : List Node
+a_mixed_sum = with_leaves (two binary_operator.Add 0 1 ∷ [])
+
+abbrev pub ObjectIsAdded : Type 0
+ObjectIsAdded = comes usual a_mixed_sum 8 ≡ Ended (gives (whole 8)) (scene a_mixed_sum 17 cells (10 ∷ 203 ∷ [])) 3
 
 -- t + n
 abbrev pub a_text : List Node
 a_text = with_leaves (two binary_operator.Add 5 1 ∷ [])
 
 abbrev pub TextsAreJoined : Type 0
-TextsAreJoined = comes usual a_text 8 ≡ Ended (gives (word 2)) (scene a_text 17 cells (10 ∷ 101 ∷ 10 ∷ 5 ∷ 11 ∷ 101 ∷ 11 ∷ 5 ∷ [])) 6
+TextsAreJoined = comes usual a_text 8 ≡ Ended (gives (word 2)) (scene a_text 17 cells (11 ∷ 5 ∷ [])) 3
 
 abbrev pub a_difference : List Node
 a_difference = with_leaves (two binary_operator.Subtract 1 2 ∷ [])
 
 abbrev pub NumbersAreSubtracted : Type 0
-NumbersAreSubtracted = comes usual a_difference 8 ≡ Ended (gives (whole 4)) (scene a_difference 17 cells (12 ∷ 5 ∷ 12 ∷ 1 ∷ [])) 4
+NumbersAreSubtracted = comes usual a_difference 8 ≡ Ended (gives (whole 4)) (scene a_difference 17 cells []) 2
 
 abbrev pub a_product : List Node
 a_product = with_leaves (two binary_operator.Multiply 1 3 ∷ [])
 
 abbrev pub NumbersAreMultiplied : Type 0
-NumbersAreMultiplied = comes usual a_product 8 ≡ Ended (gives (whole 10)) (scene a_product 17 cells (12 ∷ 5 ∷ 12 ∷ 2 ∷ [])) 4
+NumbersAreMultiplied = comes usual a_product 8 ≡ Ended (gives (whole 10)) (scene a_product 17 cells []) 2
 
 -- n % 0
 abbrev pub a_remainder : List Node
 a_remainder = with_leaves (number 0 ∷ two binary_operator.Remainder 1 8 ∷ [])
 
 abbrev pub NoRemainderThrows : Type 0
-NoRemainderThrows = fails (comes usual a_remainder 9) ≡ (range_error (codes "number outside the profile"), 17, 12 ∷ 5 ∷ 12 ∷ 0 ∷ [])
+NoRemainderThrows = fails (comes usual a_remainder 9) ≡ (range_error (codes "number outside the profile"), 17, [])
 
--- n < 1, n > 1, n <= 1, n >= 1: which operand is asked about first, and which is converted first
-abbrev pub orders : BinaryOperator → List Node
-orders op = with_leaves (two op 1 2 ∷ [])
+-- n < o, n > o, n <= o, n >= o: which operand is asked about first, and which is converted first
+abbrev pub object_orders : BinaryOperator → List Node
+object_orders op = with_leaves (two op 1 0 ∷ [])
 
 abbrev pub LessInOrder : Type 0
 LessInOrder =
-    comes usual (orders binary_operator.Less) 8 ≡ Ended (gives (value.Bool false)) (scene (orders binary_operator.Less) 17 cells (16 ∷ 5 ∷ 1 ∷ 93 ∷ [])) 3
+    comes usual (object_orders binary_operator.Less) 8
+    ≡ Ended (gives (value.Bool false)) (scene (object_orders binary_operator.Less) 17 cells (16 ∷ 5 ∷ 203 ∷ 93 ∷ [])) 3
 
 abbrev pub GreaterInOrder : Type 0
 GreaterInOrder =
-    comes usual (orders binary_operator.Greater) 8 ≡ Ended (gives (value.Bool true)) (scene (orders binary_operator.Greater) 17 cells (16 ∷ 1 ∷ 5 ∷ 92 ∷ [])) 3
+    comes usual (object_orders binary_operator.Greater) 8
+    ≡ Ended (gives (value.Bool false)) (scene (object_orders binary_operator.Greater) 17 cells (16 ∷ 203 ∷ 5 ∷ 92 ∷ [])) 3
 
 abbrev pub AtMostInOrder : Type 0
 AtMostInOrder =
-    comes usual (orders binary_operator.AtMost) 8 ≡ Ended (gives (value.Bool false)) (scene (orders binary_operator.AtMost) 17 cells (16 ∷ 1 ∷ 5 ∷ 92 ∷ [])) 3
+    comes usual (object_orders binary_operator.AtMost) 8
+    ≡ Ended (gives (value.Bool true)) (scene (object_orders binary_operator.AtMost) 17 cells (16 ∷ 203 ∷ 5 ∷ 92 ∷ [])) 3
 
 abbrev pub AtLeastInOrder : Type 0
 AtLeastInOrder =
-    comes usual (orders binary_operator.AtLeast) 8 ≡ Ended (gives (value.Bool true)) (scene (orders binary_operator.AtLeast) 17 cells (16 ∷ 5 ∷ 1 ∷ 93 ∷ [])) 3
+    comes usual (object_orders binary_operator.AtLeast) 8
+    ≡ Ended (gives (value.Bool true)) (scene (object_orders binary_operator.AtLeast) 17 cells (16 ∷ 5 ∷ 203 ∷ 93 ∷ [])) 3
+
+-- n < 1, n > 1, n <= 1, n >= 1: of numbers nothing is asked
+abbrev pub orders : BinaryOperator → List Node
+orders op = with_leaves (two op 1 2 ∷ [])
+
+abbrev pub number_order : BinaryOperator → Bool → Type 0
+number_order op b = comes usual (orders op) 8 ≡ Ended (gives (value.Bool b)) (scene (orders op) 17 cells []) 2
+
+abbrev pub NumberIsLess : Type 0
+NumberIsLess = number_order binary_operator.Less false
+
+abbrev pub NumberIsGreater : Type 0
+NumberIsGreater = number_order binary_operator.Greater true
+
+abbrev pub NumberIsAtMost : Type 0
+NumberIsAtMost = number_order binary_operator.AtMost false
+
+abbrev pub NumberIsAtLeast : Type 0
+NumberIsAtLeast = number_order binary_operator.AtLeast true
 
 abbrev pub EqualIsAsked : Type 0
 EqualIsAsked =
@@ -587,19 +617,19 @@ abbrev pub n_up : List Node
 n_up = with_leaves (updates true false (to number_name) ∷ [])
 
 abbrev pub OldIsGiven : Type 0
-OldIsGiven = comes usual n_up 8 ≡ Ended (gives (whole 5)) (scene n_up 19 (cells_with (whole 6)) (12 ∷ 5 ∷ [])) 1
+OldIsGiven = comes usual n_up 8 ≡ Ended (gives (whole 5)) (scene n_up 19 (cells_with (whole 6)) []) 0
 
 abbrev pub n_down : List Node
 n_down = with_leaves (updates false true (to number_name) ∷ [])
 
 abbrev pub NewIsGiven : Type 0
-NewIsGiven = comes usual n_down 8 ≡ Ended (gives (whole 4)) (scene n_down 19 (cells_with (whole 4)) (12 ∷ 5 ∷ [])) 1
+NewIsGiven = comes usual n_down 8 ≡ Ended (gives (whole 4)) (scene n_down 19 (cells_with (whole 4)) []) 0
 
 abbrev pub o_k_up : List Node
 o_k_up = with_leaves (member 0 (codes "k") ∷ updates true false (into 8) ∷ [])
 
 abbrev pub MemberIsUpdated : Type 0
-MemberIsUpdated = comes usual o_k_up 9 ≡ Ended (gives (whole 7)) (scene o_k_up 17 cells (2 ∷ 203 ∷ 12 ∷ 7 ∷ 3 ∷ 203 ∷ 8 ∷ [])) 4
+MemberIsUpdated = comes usual o_k_up 9 ≡ Ended (gives (whole 7)) (scene o_k_up 17 cells (2 ∷ 203 ∷ 3 ∷ 203 ∷ 8 ∷ [])) 3
 
 -- ---- calls
 
@@ -723,8 +753,7 @@ a_for = with_leaves (
 abbrev pub ContinueSteps : Type 0
 ContinueSteps =
     comes usual a_for 14
-    ≡ Ended (gives value.Undefined) (scene a_for 4 (cells ++ Some (whole 2) ∷ []) (
-    16 ∷ 0 ∷ 2 ∷ 93 ∷ 12 ∷ 0 ∷ 16 ∷ 1 ∷ 2 ∷ 93 ∷ 12 ∷ 1 ∷ 16 ∷ 2 ∷ 2 ∷ 93 ∷ [])) 23
+    ≡ Ended (gives value.Undefined) (scene a_for 4 (cells ++ Some (whole 2) ∷ []) []) 18
 
 -- try { throw 1; } catch (k) { k; }
 abbrev pub a_catch : List Node

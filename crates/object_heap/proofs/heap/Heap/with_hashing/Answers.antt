@@ -2,7 +2,7 @@ use Rattle.es_model.specs.StartWorld.{start_world}
 use Rattle.object_heap.proofs.Standing.{stand}
 use Rattle.object_heap.proofs.StartLists.{start-table}
 use Rattle.object_heap.proofs.TextNumbers.{table-same}
-use Rattle.object_heap.proofs.heap.Heap.new.Goals as goal
+use Rattle.object_heap.proofs.heap.Heap.with_hashing.Goals as goal
 
 pub invariant_of-result : goal.invariant_of-result
 invariant_of-result c = table-same _ _ c.in_ok-texts.ensures start-table

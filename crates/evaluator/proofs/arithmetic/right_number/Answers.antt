@@ -1,0 +1,18 @@
+use Rattle.std.proofs.Common.{rules, subst, sym}
+use Rattle.es_model.specs.Program.{Program}
+use Rattle.es_model.specs.Stages.{stage_of}
+use Rattle.evaluator.specs.Contexts.{context}
+use Rattle.evaluator.specs.Operators.{right_number}
+use Rattle.evaluator.specs.Plans.{Plans}
+use Rattle.evaluator.proofs.Converting.{number_asked}
+use Rattle.evaluator.proofs.arithmetic.right_number.Goals as goal
+
+pub returns-in-Undefined : goal.returns-in-Undefined
+returns-in-Undefined g c =
+    let here = context c.args.script.now c.args.body c.args.cells.now in
+    record {
+      plans = λ w h. subst (λ (p : Program). Plans here here c.args.heap.now c.convert.new.heap w (stage_of p w) c.convert.result)
+          (sym (number_asked c.args.right (right_number here c.args.operator c.args.finish c.args.left) c.in-Undefined.is)) (c.convert.ensures.plans w h);
+      named = search rules;
+      retains = c.convert.ensures.retains;
+    }
