@@ -45,6 +45,8 @@ use Rattle.object_heap.specs.Stands.{HeapView, Goes, StandsFor}
 use Rattle.object_heap.specs.Turns.{IsKnownSite, KeepsNamed}
 use Rattle.object_heap.proofs.Retaining.{retains_none}
 use Rattle.object_heap.proofs.Standing.{cells-stand, count-stands, kind-stands, symbols-stand, texts-stand}
+use Rattle.array_objects.specs.Making.{made_world, new_array}
+use Rattle.array_objects.proofs.Made.{made_there}
 use Rattle.evaluator.specs.declared.frames.Current.{Current}
 use Rattle.evaluator.specs.declared.frames.Current.TheVariants.{At, EndedBy}
 use Rattle.evaluator.specs.declared.frames.Construction.{Construction}
@@ -170,6 +172,10 @@ pub object_there : (b c : HeapView) (w v : World) (origin : Origin) (p : Option 
 object_there b c w v origin p o is h r hv =
     let u : World = changed (Making Ordinary origin p) w in
     subst (λ (x : ObjectId). IsObject v.lists x) (sym is) (object-later u.lists v.lists (heap_later b c u v r h hv) (new_object w.lists) (object-there w origin p))
+
+pub array_there : (b c : HeapView) (w v : World) (n : ℕ) (p a : ObjectId) → a ≡ new_array w → StandsFor b (made_world n p w) → Retains b c → StandsFor c v → IsObject v.lists a
+array_there b c w v n p a is h r hv =
+    let u : World = made_world n p w in subst (λ (x : ObjectId). IsObject v.lists x) (sym is) (object-later u.lists v.lists (heap_later b c u v r h hv) (new_array w) (made_there n p w))
 
 pub new_cell_there : (b c : HeapView) (w v : World) (x : Option Value) (n : CellNo) → n ≡ new_cell w.lists → StandsFor b (changed (MakingCell x) w) → Retains b c → StandsFor c v → IsCell v.lists n
 new_cell_there b c w v x n is h r hv =

@@ -41,6 +41,7 @@ use Rattle.evaluator.specs.declared.references.Reference.TheVariants as referenc
 use Rattle.evaluator.specs.Assignments.{compound_valued}
 use Rattle.evaluator.specs.Calls.{arguments_at}
 use Rattle.evaluator.specs.Contexts.{Context, given}
+use Rattle.evaluator.specs.Elements.{elements_after, elements_at}
 use Rattle.evaluator.specs.Literals.{getter, plain, properties_at, properties_from, setter}
 use Rattle.evaluator.specs.Operators.{comma_at, minus_converted, right_valued}
 use Rattle.evaluator.specs.Plans.{access_valued, asked_program, ended, flag_answered, item_program, key_answered, literal_valued, made_by, operator_valued, property_keyed, purpose_program, reading_program, reading_valued, statement_item, value_answered}
@@ -48,6 +49,7 @@ use Rattle.evaluator.specs.Statements.{declared_at}
 use Rattle.evaluator.proofs.AccessesWithin.{given-within, key_converted-within, key_valued-within, read_reference-within}
 use Rattle.evaluator.proofs.AssignmentsWithin.{assign_reference-within, compound_reference-within, compound_valued-within, update_converted-within, update_number-within, update_reference-within}
 use Rattle.evaluator.proofs.CallsWithin.{arguments-within, callee_reference-within}
+use Rattle.evaluator.proofs.ElementsKept.{element_put-within, elements-within}
 use Rattle.evaluator.proofs.LiteralsWithin.{definitions-most, key_converted-within as definition_key-within, properties-within, proto_of-within, value_keyed-within}
 use Rattle.evaluator.proofs.OperatorsWithin.{add_primitives-within, apply-within, calculated-within, comma-within, compare-within, flag_given-within, joined-within, minus_converted-within, negated-within, not_value-within, right_number-within, right_primitive-within, right_text-within, right_valued-within, short_value-within, test_value-within, typeof_reference-within, typeof_value-within}
 use Rattle.evaluator.proofs.ReferencesWithin.{delete_reference-within, get_value-within, got_again-within, put_again-within, put_value-within, unless_refused-within}
@@ -99,6 +101,8 @@ literal-within r here (literal.KeyValued n at o) v enough =
 literal-within r here (literal.ProtoValued n next o) v enough =
     proto_of-within r r (40 * most_definitions here.script.nodes) o (properties_from here o (drop next (properties_at here n))) v (omega arith)
     (rest-within r (40 * most_definitions here.script.nodes) here o n next (omega arith) (omega arith))
+literal-within r here (literal.ElementValued n i a) v enough =
+    element_put-within r r a i (elements_after here n (i + 1) a) v (elements-within r r here a (i + 1) (drop (i + 1) (elements_at here n)) (omega arith) (omega arith))
 
 -- ---- what is done with a reference, and with a value
 

@@ -12,6 +12,8 @@ pub mod Declared
 pub mod Declaring
 pub mod Defining
 pub mod Driven
+pub mod ElementsDefined
+pub mod ElementsKept
 pub mod Ended
 pub mod Entered
 pub mod Entering

@@ -43,6 +43,7 @@ use Rattle.evaluator.specs.Literals.{getter, key_converted, key_valued, literal_
 use Rattle.evaluator.specs.References.{prototype_of}
 use Rattle.evaluator.specs.Values.{whole_of}
 use Rattle.evaluator.proofs.AccessesKept.{key_asked-kept, read_reference-kept}
+use Rattle.evaluator.proofs.ElementsKept.{array-kept}
 use Rattle.evaluator.proofs.FunctionsKept.{make_function-kept}
 use Rattle.evaluator.proofs.ReferencesKept.{get_value-kept, resolve-kept}
 use Rattle.evaluator.proofs.WordsKept.{Keeps, done-kept, look-kept, change-kept, IsHere, OnEnd, OnKey, Onward, asked-kept, evaluated-kept, flag-kept, here-stays, key-kept, key-stays, onward-stays, or_out-kept, text-kept, value-kept, whole-known, with_key-kept}
@@ -158,7 +159,7 @@ primary-kept w here name n (primary.Number x) s h known = or_out-kept w (whole_o
 primary-kept w here name n (primary.Text units) s h known = text-kept w units _ s (λ t v sv l there. done-kept v (normal (value.Text t)) sv there)
 primary-kept w here name n primary.Null s h known = done-kept w _ s tt
 primary-kept w here name n (primary.Bool x) s h known = done-kept w _ s tt
-primary-kept w here name n (primary.Array elements) s h known = done-kept w _ s tt
+primary-kept w here name n (primary.Array elements) s h known = array-kept w here n s h
 primary-kept w here name n (primary.Object literal properties) s h known = object-kept w here n literal s h
 primary-kept w here name n (primary.Function f) s h known = make_function-kept w here name f s h known
 primary-kept w here name n (primary.Method f) s h known = make_function-kept w here name f s h known

@@ -28,6 +28,7 @@ use Rattle.evaluator.specs.Contexts.{Context, normal}
 use Rattle.evaluator.specs.Literals.{getter, key_converted, key_valued, object_literal, plain, primary_program, properties_from, properties_in, property_key, property_then, property_valued, proto_answered, proto_of, proto_valued, setter, shorthand_keyed, value_keyed}
 use Rattle.evaluator.specs.Values.{whole_of}
 use Rattle.evaluator.proofs.AccessesWithin.{read_reference-within}
+use Rattle.evaluator.proofs.ElementsKept.{array-within}
 use Rattle.evaluator.proofs.FunctionsWithin.{make_function-within}
 use Rattle.evaluator.proofs.ReferencesWithin.{get_value-within, resolve-within}
 use Rattle.evaluator.proofs.WordsWithin.{On, Within, asked-within, change-within, done-within, evaluated-within, flag-within, key-within, look-within, more-within, or_out-within, text-within, value-within, with_key-within}
@@ -133,7 +134,7 @@ primary-within r here name n (primary.Number x) enough = or_out-within r r (whol
 primary-within r here name n (primary.Text units) enough = text-within r r units _ (λ t. done-within r r (normal (value.Text t)))
 primary-within r here name n primary.Null enough = done-within _ _ _
 primary-within r here name n (primary.Bool x) enough = done-within _ _ _
-primary-within r here name n (primary.Array elements) enough = done-within _ _ _
+primary-within r here name n (primary.Array elements) enough = array-within r here n (omega arith)
 primary-within r here name n (primary.Object literal properties) enough = object-within r here n literal (omega arith)
 primary-within r here name n (primary.Function f) enough = make_function-within r r here name f
 primary-within r here name n (primary.Method f) enough = make_function-within r r here name f

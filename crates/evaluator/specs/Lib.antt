@@ -2,6 +2,7 @@ pub mod Accesses
 pub mod Assignments
 pub mod Calls
 pub mod Contexts
+pub mod Elements
 pub mod Entering
 pub mod Errors
 pub mod Frames

@@ -31,10 +31,10 @@ use Rattle.es_model.specs.Completions.{Completion}
 use Rattle.es_model.specs.Events.{Origin, OfLiteral}
 use Rattle.es_model.specs.Program.{Program, ask, define, make}
 use Rattle.es_model.specs.programs.Abrupt.{then_flag, then_key, then_value}
-use Rattle.es_model.specs.programs.Errors.{unwritten}
 use Rattle.evaluator.specs.Accesses.{read_reference}
 use Rattle.evaluator.specs.Contexts.{Context, convert, evaluate, evaluate_named, gives, node_at}
 use Rattle.evaluator.specs.Errors.{make_text}
+use Rattle.evaluator.specs.Elements.{array_literal}
 use Rattle.evaluator.specs.Functions.{make_function}
 use Rattle.evaluator.specs.References.{get_value, prototype_of, resolve}
 use Rattle.evaluator.specs.Values.{or_out, whole_of, with_key}
@@ -128,11 +128,6 @@ literal_origin script n = origin_of script.literals n (slice_get script.literals
 abbrev pub object_literal : Context → NodeId → LiteralNo → Program
 object_literal here n literal =
     make kind_of.Ordinary (literal_origin here.script literal) (Some (prototype_of class.Object)) (λ o. properties_from here o (properties_at here n))
-
--- ---- array literals (13.2.4.2): not written yet
-
-abbrev pub array_literal : Context → NodeId → Program
-array_literal here n = unwritten
 
 -- ---- each primary expression
 

@@ -104,6 +104,7 @@ abbrev pub names_of_literal : LiteralItem → List FrameName
 names_of_literal (literal.PropertyValued n next o k made) = NamesObject o ∷ NamesKey k ∷ []
 names_of_literal (literal.KeyValued n at o) = NamesObject o ∷ []
 names_of_literal (literal.ProtoValued n next o) = NamesObject o ∷ []
+names_of_literal (literal.ElementValued n i a) = NamesObject a ∷ []
 
 abbrev pub names_of_statement : StatementItem → List FrameName
 names_of_statement (statement.LastEnded before) = NamesCompletion (ended before) ∷ []

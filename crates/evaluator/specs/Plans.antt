@@ -1,5 +1,5 @@
 -- What the items and jobs of a running body mean, and what a function of the evaluator has to give.
-use Rattle.std.specs.Prelude.{◌≡◌, ℕ, Bool, true, not, List, [], ◌∷◌, ◌++◌, drop, Result, Ok, Err, Option, Some, None, length, slice_get}
+use Rattle.std.specs.Prelude.{◌≡◌, ℕ, Bool, true, not, List, [], ◌∷◌, ◌++◌, ◌+◌, drop, Result, Ok, Err, Option, Some, None, length, slice_get}
 use Rattle.property_keys.specs.declared.identifiers.ObjectId.{ObjectId}
 use Rattle.property_keys.specs.declared.identifiers.TextId.{TextId}
 use Rattle.property_keys.specs.declared.keys.PropKey.{PropKey}
@@ -65,6 +65,7 @@ use Rattle.evaluator.specs.Accesses.{key_converted, key_valued, read_reference}
 use Rattle.evaluator.specs.Assignments.{assign_reference, compound_reference, compound_valued, update_converted, update_number, update_reference}
 use Rattle.evaluator.specs.Calls.{arguments_at, arguments_from, callee_reference}
 use Rattle.evaluator.specs.Contexts.{Context, context, convert, evaluate, given, gives, normal}
+use Rattle.evaluator.specs.Elements.{element_put, elements_after, elements_in}
 use Rattle.evaluator.specs.Functions.{name_units, prefix_units}
 use Rattle.evaluator.specs.Literals.{getter, key_converted as literal_key, plain, properties_at, properties_from, properties_in}
 use Rattle.evaluator.specs.Literals.{proto_of, setter, value_keyed}
@@ -154,6 +155,7 @@ abbrev pub literal_valued : Context → LiteralItem → Value → Program
 literal_valued here (literal.PropertyValued n next o k m) v = define o k (made_by m v) (λ succeeded. definitions_from here n next o)
 literal_valued here (literal.KeyValued n at o) v = convert operation.ToKey v (literal_key (property_keyed here o (drop at (properties_at here n))))
 literal_valued here (literal.ProtoValued n next o) v = proto_of o (definitions_from here n next o) v
+literal_valued here (literal.ElementValued n i a) v = element_put a i (elements_after here n (i + 1) a) v
 
 abbrev pub statement_item : Context → StatementItem → Completion → Program
 statement_item here (statement.AfterStatement list next) c = statements.after_statement here list next c
@@ -283,6 +285,10 @@ DefinesAt script body cells old new p rest result = DefinesIn (context script bo
 -- the property definition that has this number, of the node with that one, stands before those from the next number on
 abbrev pub StandsAt : Tree → NodeId → ℕ → ℕ → Property → Type 0
 StandsAt script n at next p = drop at (properties_in (slice_get script.nodes n.0)) ≡ p ∷ drop next (properties_in (slice_get script.nodes n.0))
+
+-- the same of an element of an array literal
+abbrev pub ElementStandsAt : Tree → NodeId → ℕ → Option NodeId → Type 0
+ElementStandsAt script n i e = drop i (elements_in (slice_get script.nodes n.0)) ≡ e ∷ drop (i + 1) (elements_in (slice_get script.nodes n.0))
 
 -- the world after a key gave a name, where it is a text
 abbrev pub named_world : World → NamePrefix → PropKey → Option TextId → World

@@ -16,14 +16,14 @@ ghost use Rattle.evaluator.specs.Names.{NamesPlan, names_of_asked, names_of_flag
 
 use crate::accesses::{property_reference, purpose_plan};
 use crate::arithmetic::{
-    add_primitives, calculated, joined, negated, right_number, right_primitive, right_text,
-    update_number,
+    add_primitives, calculated, joined, right_number, right_primitive, right_text,
 };
 use crate::cells::Cells;
 use crate::definitions::{definition_keyed, properties_from};
 use crate::items::{Asked, Ending, FlagAsked, KeyAsked, Plan, ValueAsked};
 use crate::reading::{get_value, got_again, reading_valued};
 use crate::references::Reference;
+use crate::unary_arithmetic::{negated, update_number};
 use crate::writing::{put_again, unless_refused};
 use es_model::{Completion, Request, Running, Stop};
 use es_tree::Checked;

@@ -27,6 +27,7 @@ ghost use Rattle.es_tree.specs.Tree.{Tree};
 ghost use Rattle.evaluator.specs.Names.{NamesDefined, NamesPlan, names_of_literal};
 
 use crate::cells::Cells;
+use crate::elements::element_valued;
 use crate::items::{
     Asked, Ending, FlagAsked, Item, Job, KeyAsked, LiteralItem, Made, Plan, Reading,
 };
@@ -653,6 +654,9 @@ pub(crate) fn literal_valued<L: Ledger>(
         ),
         LiteralItem::ProtoValued { node, next, object } => proto_valued(
             heap, script, body, cells, node, next, object, value, steps,
+        ),
+        LiteralItem::ElementValued { node, at, array } => element_valued(
+            heap, script, body, cells, node, at, array, value, steps,
         ),
     }
 }

@@ -130,7 +130,7 @@ pub(crate) enum Made {
 }
 
 /// A point at which an object literal waits for a part of a property definition: the literal's node, the number of the definition or of the one behind it, and
-/// the object.
+/// the object. An array literal waits for an element.
 #[derive(Clone, Copy)]
 pub(crate) enum LiteralItem {
     PropertyValued {
@@ -149,6 +149,12 @@ pub(crate) enum LiteralItem {
         node: NodeId,
         next: usize,
         object: ObjectId,
+    },
+    /// The value of the element with this number, of an array literal.
+    ElementValued {
+        node: NodeId,
+        at: usize,
+        array: ObjectId,
     },
 }
 

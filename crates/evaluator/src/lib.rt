@@ -11,6 +11,7 @@ mod cells;
 mod countdown;
 mod declarations;
 mod definitions;
+mod elements;
 mod endings;
 mod frames;
 mod functions;
@@ -30,6 +31,7 @@ mod texts;
 mod tree;
 mod trying;
 mod turns;
+mod unary_arithmetic;
 mod values;
 mod writing;
 

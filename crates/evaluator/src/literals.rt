@@ -9,8 +9,6 @@ ghost use Rattle.es_tree.specs.declared.node.Node.TheVariants as node_of;
 ghost use Rattle.evaluator.specs.Contexts.{context};
 ghost use Rattle.evaluator.specs.Literals.{object_literal, primary_program};
 ghost use Rattle.evaluator.specs.Plans.{PlansAt, PlansOf};
-ghost use Rattle.evaluator.specs.declared.items.Ending.TheVariants as ending;
-ghost use Rattle.evaluator.specs.declared.items.Plan.TheVariants as plan;
 ghost use Rattle.evaluator.specs.Values.{or_out, whole_of};
 ghost use Rattle.object_heap.specs.Retains.{Retains};
 ghost use Rattle.es_model.specs.World.{Lists, World};
@@ -22,6 +20,7 @@ ghost use Rattle.evaluator.specs.Names.{NamesPlan};
 use crate::accesses::resolve;
 use crate::cells::Cells;
 use crate::definitions::properties_from;
+use crate::elements::array_literal;
 use crate::functions::make_function;
 use crate::items::{Ending, Plan, Purpose};
 use crate::messages::out_of_profile;
@@ -90,13 +89,6 @@ fn object_literal<L: Ledger>(
     properties_from(heap, script, body, cells, node, 0, object, steps)
 }
 
-/// What is not written yet throws undefined.
-fn unwritten() -> Plan
-    ensures { result ≡ plan.Ends (ending.Throws values.Undefined) }
-{
-    Plan::Ends(Ending::Throws(Value::Undefined))
-}
-
 /// A primary expression, after its turn.
 pub(crate) fn primary_plan<L: Ledger>(
     heap: &mut Heap,
@@ -127,6 +119,6 @@ pub(crate) fn primary_plan<L: Ledger>(
         Primary::Function(function) | Primary::Method(function) => make_function(
             heap, script, body, cells, name, *function, steps,
         ),
-        Primary::Array(_) => Ok(unwritten()),
+        Primary::Array(_) => array_literal(heap, script, body, cells, node, steps),
     }
 }

@@ -19,7 +19,7 @@ ghost use Rattle.es_model.specs.Kept.{IsKnownRunning};
 ghost use Rattle.evaluator.specs.Names.{NamesPlan, names_of_operator, names_of_reference};
 
 use crate::accesses::{access_target, resolve};
-use crate::arithmetic::{apply, minus_value, plus_value};
+use crate::arithmetic::apply;
 use crate::cells::Cells;
 use crate::items::{
     Asked, Ending, FlagAsked, Item, Job, KeyAsked, OperatorItem, Plan, Purpose, Reading,
@@ -29,6 +29,7 @@ use crate::reading::get_value;
 use crate::references::{Arithmetic, Finish, Reference};
 use crate::requests::{ask_of_two, convert, is_less};
 use crate::tree::{comma_at, node_at};
+use crate::unary_arithmetic::{minus_value, plus_value};
 use crate::values::{goes_right, type_text};
 use crate::writing::put_value;
 use es_model::{Operation, Running, Stop};

@@ -17,7 +17,6 @@ ghost use Rattle.es_tree.specs.Tree.{IsSite};
 ghost use Rattle.es_model.specs.Belongs.{HasNames};
 ghost use Rattle.evaluator.specs.Names.{NamesPlan, names_of_reading, names_of_reference};
 
-use crate::arithmetic::update_value;
 use crate::calls::arguments_from;
 use crate::cells::Cells;
 use crate::definitions::property_valued;
@@ -28,6 +27,7 @@ use crate::messages::{not_an_object, not_defined, not_initialised};
 use crate::operators::typeof_value;
 use crate::references::{Arithmetic, Invocation, Reference};
 use crate::texts::{text_len, text_unit, unit_text};
+use crate::unary_arithmetic::update_value;
 use es_model::{Class, Intrinsic, Request, Running, StartText, Stop, Values};
 use es_tree::{Checked, NodeId, SiteId};
 use object_heap::Heap;

@@ -7,6 +7,7 @@ use Rattle.property_keys.specs.declared.keys.PropKey.{PropKey}
 use Rattle.property_keys.specs.declared.keys.PropKey.TheVariants.{Index, Name}
 use Rattle.property_keys.specs.declared.values.Value.{Value}
 use Rattle.property_keys.specs.declared.values.Value.TheVariants as value
+use Rattle.descriptors.specs.declared.property.Complete.TheVariants as complete
 use Rattle.es_tree.specs.declared.expressions.Access.TheVariants as access
 use Rattle.es_tree.specs.declared.expressions.AssignOperator.{AssignOperator}
 use Rattle.es_tree.specs.declared.expressions.AssignOperator.TheVariants as assign_operator
@@ -36,6 +37,7 @@ use Rattle.es_model.specs.declared.intrinsics.Class.TheVariants as class
 use Rattle.es_model.specs.declared.intrinsics.Intrinsic.TheVariants as intrinsic
 use Rattle.es_model.specs.declared.kinds.CellNo.{CellNo}
 use Rattle.es_model.specs.declared.kinds.ErrorKind.TheVariants as error
+use Rattle.es_model.specs.declared.owned.OwnProperty.{OwnProperty}
 use Rattle.es_model.specs.declared.requests.Operation.{Operation}
 use Rattle.es_model.specs.declared.requests.Operation.TheVariants as operation
 use Rattle.es_model.specs.declared.requests.Request.{Request}
@@ -709,6 +711,39 @@ properties_of_first (Halt w count) = (Break, 0)
 
 abbrev pub LiteralIsLeft : Type 0
 LiteralIsLeft = properties_of_first (comes throwing broken_literal 9) ≡ (Throw (whole 9), 1)
+
+-- how an evaluation ends, the turns that are left, and the values that object 0 has, in the order of creation
+abbrev pub stored_value : OwnProperty → Option Value
+stored_value p = elim p.complete as (λ c. Option Value) [ complete.Stored v flags ↦ Some v | complete.Accessor get set enumerable configurable ↦ None ]
+
+abbrev pub held_by_first : Outcome → Completion × ℕ × List (Option Value)
+held_by_first (Ended c w count) = (c, w.turns, map stored_value (object_at w.lists.objects (at 0)).properties)
+held_by_first (Halt w count) = (Break, w.turns, [])
+
+-- an array literal, whose elements that are left out are none
+abbrev pub elements : List (Option NodeId) → Node
+elements es = node.Primary (primary.Array es)
+
+-- [1, , n]: under `length`, 0 and 2
+abbrev pub an_array : List Node
+an_array = with_leaves (elements (Some (the 2) ∷ None ∷ Some (the 1) ∷ []) ∷ [])
+
+abbrev pub ArrayIsMade : Type 0
+ArrayIsMade = held_by_first (comes usual an_array 8) ≡ (gives (object 0), 17, Some (whole 3) ∷ Some (whole 1) ∷ Some (whole 5) ∷ [])
+
+-- [ , ]: the one element is left out
+abbrev pub an_empty_array : List Node
+an_empty_array = with_leaves (elements (None ∷ []) ∷ [])
+
+abbrev pub HoleRaisesLength : Type 0
+HoleRaisesLength = held_by_first (comes usual an_empty_array 8) ≡ (gives (object 0), 19, Some (whole 1) ∷ [])
+
+-- [1, o.k, 2], where the read throws: one element is there, and the array is never given
+abbrev pub a_broken_array : List Node
+a_broken_array = with_leaves (member 0 (codes "k") ∷ elements (Some (the 2) ∷ Some (the 8) ∷ Some (the 3) ∷ []) ∷ [])
+
+abbrev pub ArrayIsLeft : Type 0
+ArrayIsLeft = held_by_first (comes throwing a_broken_array 9) ≡ (Throw (whole 9), 16, Some (whole 1) ∷ Some (whole 1) ∷ [])
 
 -- ---- statements
 

@@ -1,6 +1,6 @@
 //! Worked examples of evaluation.
 
-ghost use Rattle.small_worlds.specs.Evaluations.{AbsentIsPut, AbsentNameThrows, AbsentPutThrows, AndStops, AtLeastInOrder, AtMostInOrder, BreakDropsThrow, BreakLeavesLoop, BreakLeavesOneLoop, CellIsPut, CoalesceGoesOn, CompoundInOrder, ConstantThrows, ContinueSteps, DeadNameThrows, DeadPutThrows, DeleteRefusedThrows, ElementIsRead, ElseIsTaken, EqualIsAsked, FinallyHasItsEnd, FinallyKeepsEnd, FinallyThrowsInstead, GlobalHasNoReceiver, GlobalIsRead, GoneIsPut, GoneNameIsUndefined, GoneNameThrows, GonePutThrows, GreaterInOrder, HaltPassesFinally, HaltsAtLink, HaltsAtRight, InConvertsKey, InWantsObject, InstanceIsAsked, KeyIsConvertedFirst, LastIsGiven, LengthIsNotDeleted, LessInOrder, LiteralIsLeft, LiteralIsMade, MemberIsCalled, MemberIsDeleted, MemberIsRead, MemberIsUpdated, MinusConverts, NameIsRead, NewIsGiven, NoRemainderThrows, NotEqualIsAsked, NotOfNumber, NotStrictlyEqualAsksNothing, NullIsNotPut, NullIsNotRead, NumberConstructsNothing, NumberGoesUp, NumberIsAtLeast, NumberIsAtMost, NumberIsDeleted, NumberIsGreater, NumberIsLess, NumbersAreAdded, NumbersAreMultiplied, NumbersAreSubtracted, ObjectIsAdded, ObjectIsConstructed, OldIsGiven, OrStops, OtherIsTaken, PlusConverts, RefusedPasses, RefusedThrows, ReturnIsKept, RightSideThrowsFirst, ScopeHasCell, StrictlyEqualAsksNothing, TextGoesUp, TextHasLength, TextHasUnits, TextsAreJoined, ThisIsGiven, ThrownIsCaught, TypeofAbsent, TypeofDeadThrows, TypeofNumber, ValueIsCalled, VoidIsUndefined};
+ghost use Rattle.small_worlds.specs.Evaluations.{AbsentIsPut, AbsentNameThrows, AbsentPutThrows, AndStops, ArrayIsLeft, ArrayIsMade, AtLeastInOrder, AtMostInOrder, BreakDropsThrow, BreakLeavesLoop, BreakLeavesOneLoop, CellIsPut, CoalesceGoesOn, CompoundInOrder, ConstantThrows, ContinueSteps, DeadNameThrows, DeadPutThrows, DeleteRefusedThrows, ElementIsRead, ElseIsTaken, EqualIsAsked, FinallyHasItsEnd, FinallyKeepsEnd, FinallyThrowsInstead, GlobalHasNoReceiver, GlobalIsRead, GoneIsPut, GoneNameIsUndefined, GoneNameThrows, GonePutThrows, GreaterInOrder, HaltPassesFinally, HaltsAtLink, HaltsAtRight, HoleRaisesLength, InConvertsKey, InWantsObject, InstanceIsAsked, KeyIsConvertedFirst, LastIsGiven, LengthIsNotDeleted, LessInOrder, LiteralIsLeft, LiteralIsMade, MemberIsCalled, MemberIsDeleted, MemberIsRead, MemberIsUpdated, MinusConverts, NameIsRead, NewIsGiven, NoRemainderThrows, NotEqualIsAsked, NotOfNumber, NotStrictlyEqualAsksNothing, NullIsNotPut, NullIsNotRead, NumberConstructsNothing, NumberGoesUp, NumberIsAtLeast, NumberIsAtMost, NumberIsDeleted, NumberIsGreater, NumberIsLess, NumbersAreAdded, NumbersAreMultiplied, NumbersAreSubtracted, ObjectIsAdded, ObjectIsConstructed, OldIsGiven, OrStops, OtherIsTaken, PlusConverts, RefusedPasses, RefusedThrows, ReturnIsKept, RightSideThrowsFirst, ScopeHasCell, StrictlyEqualAsksNothing, TextGoesUp, TextHasLength, TextHasUnits, TextsAreJoined, ThisIsGiven, ThrownIsCaught, TypeofAbsent, TypeofDeadThrows, TypeofNumber, ValueIsCalled, VoidIsUndefined};
 
 /// Names: cells, the dead zone, and the two looks at the global object, in strict code and other code.
 #[tactic(auto, unfolding(es_model::specs::Changes::changed, es_model::specs::Changes::charged, es_model::specs::Changes::printed_more, es_model::specs::Changes::added, es_model::specs::Changes::made, es_model::specs::Changes::text_known, es_model::specs::Changes::cell_made, es_model::specs::Changes::cell_set, es_model::specs::World::allows, es_model::specs::World::number_of))]
@@ -93,12 +93,15 @@ pub fn calls_are_made()
     ensures number_constructs_nothing { NumberConstructsNothing }
 {}
 
-/// `this`, and an object literal with a key that is computed.
-#[tactic(auto, unfolding(es_model::specs::Changes::changed, es_model::specs::Changes::charged, es_model::specs::Changes::printed_more, es_model::specs::Changes::added, es_model::specs::Changes::made, es_model::specs::Changes::text_known, es_model::specs::Changes::cell_made, es_model::specs::Changes::cell_set, es_model::specs::World::allows, es_model::specs::World::number_of))]
+/// `this`, an object literal with a key that is computed, and array literals.
+#[tactic(auto, unfolding(es_model::specs::Changes::changed, es_model::specs::Changes::charged, es_model::specs::Changes::printed_more, es_model::specs::Changes::added, es_model::specs::Changes::replaced, es_model::specs::Changes::made, es_model::specs::Changes::text_known, es_model::specs::Changes::cell_made, es_model::specs::Changes::cell_set, es_model::specs::World::allows, es_model::specs::World::number_of))]
 pub fn primaries_are_evaluated()
     ensures this_is_given { ThisIsGiven }
     ensures literal_is_made { LiteralIsMade }
     ensures literal_is_left { LiteralIsLeft }
+    ensures array_is_made { ArrayIsMade }
+    ensures hole_raises_length { HoleRaisesLength }
+    ensures array_is_left { ArrayIsLeft }
 {}
 
 /// Blocks, loops, `if` and `try`: scopes, and which ends leave what.

@@ -3,7 +3,7 @@
 /// A script, and what it prints: a line for each call of `print`, and how it ends where it throws or halts.
 pub struct Row(pub &'static str, pub &'static str);
 
-pub const ROWS: [Row; 56] = [
+pub const ROWS: [Row; 62] = [
     Row("", ""),
     Row("print(1);", "1\n"),
     Row("throw 3;", "throws 3"),
@@ -138,12 +138,25 @@ pub const ROWS: [Row; 56] = [
     ),
     Row("print(typeof this);", "object\n"),
     Row("new 3;", "throws not a constructor"),
+    // array literals
+    Row(
+        "let a = [1, 2, 3]; print(a.length, a[0], a[2], a[3]);",
+        "3 1 3 undefined\n",
+    ),
+    Row(
+        "print([].length, [,].length, [1,,].length, [,,3].length);",
+        "0 1 2 3\n",
+    ),
+    Row("let a = [1,,3]; print(1 in a, 2 in a);", "false true\n"),
+    Row("print([[1, 2], [3]][0][1]);", "2\n"),
+    Row("print([function () {}][0].name === '');", "true\n"),
+    Row("let o = {}; [1, o.a.b, print(2)];", "throws not an object"),
 ];
 
 /// A script, and the turns that it takes.
 pub struct Taken(pub &'static str, pub u64);
 
-pub const TAKEN: [Taken; 11] = [
+pub const TAKEN: [Taken; 12] = [
     Taken("1;", 2),
     Taken("let a = 1;", 2),
     Taken("{ let a = 1; a; }", 5),
@@ -157,6 +170,8 @@ pub const TAKEN: [Taken; 11] = [
     Taken("if (1) 2;", 4),
     // the statement, the conditional operator, its test and the operand that is taken
     Taken("1 ? 2 : 3;", 4),
+    // the statement, the literal and two elements
+    Taken("[1, , 2];", 4),
     // A name of 2^20 + 4 code units is too long, and it is made once the accessor is there: after its turn. The first statement takes 2, the loop
     // 1 + 2 + 21 * 3 + 20 * 4, and then come the `try`, its statement, the literal, its key and the accessor
     Taken(

@@ -5,7 +5,7 @@ use Rattle.evaluator.specs.Contexts.{context}
 use Rattle.evaluator.specs.Operators.{minus_converted}
 use Rattle.evaluator.specs.Plans.{Plans}
 use Rattle.evaluator.proofs.Converting.{number_asked}
-use Rattle.evaluator.proofs.arithmetic.minus_value.Goals as goal
+use Rattle.evaluator.proofs.unary_arithmetic.minus_value.Goals as goal
 
 pub returns-in-Undefined : goal.returns-in-Undefined
 returns-in-Undefined g c =

@@ -4,7 +4,7 @@ use Rattle.es_model.specs.Stages.{stage_of}
 use Rattle.evaluator.specs.Contexts.{context, given}
 use Rattle.evaluator.specs.Plans.{Plans}
 use Rattle.evaluator.proofs.Converting.{number_asked}
-use Rattle.evaluator.proofs.arithmetic.plus_value.Goals as goal
+use Rattle.evaluator.proofs.unary_arithmetic.plus_value.Goals as goal
 
 pub returns-in-Undefined : goal.returns-in-Undefined
 returns-in-Undefined g c =

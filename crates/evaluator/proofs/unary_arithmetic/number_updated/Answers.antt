@@ -2,7 +2,7 @@ use Rattle.std.proofs.Common.{◌≡◌, Bool, ℤ, if◌then◌else◌, arith, 
 use Rattle.std.proofs.lemmas.Int.{ints}
 use Rattle.property_keys.specs.Wholes.{IsWhole}
 use Rattle.evaluator.proofs.Belonging.{either_whole, stepped_whole}
-use Rattle.evaluator.proofs.arithmetic.number_updated.Goals as goal
+use Rattle.evaluator.proofs.unary_arithmetic.number_updated.Goals as goal
 
 given-whole : (first : Bool) (a b r : ℤ) → r ≡ (if first then a else b) → IsWhole a → IsWhole b → IsWhole r
 given-whole first a b r is h k = subst (λ (x : ℤ). IsWhole x) (sym is) (either_whole first a b h k)
