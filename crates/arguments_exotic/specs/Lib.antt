@@ -1,0 +1,4 @@
+pub mod Arguments
+pub mod Creating
+pub mod Serving
+pub mod Turns
